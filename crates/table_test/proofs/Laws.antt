@@ -1,0 +1,8 @@
+pub mod Scans
+pub mod ModelTest
+pub mod ModelKept
+pub mod RowsTest
+pub mod LogTest
+pub mod ElementsTest
+pub mod SchemaTest
+pub mod TablesTest

@@ -1,0 +1,130 @@
+-- `tables::model_test::lists_once` meets its contract. Assumes nothing.
+use mathlib.Core.Path.{_≡_, sym, _∙_}
+use Prim.Native.Nat.{_-_, _<_}
+use native.Mathlib.Omega.{arith}
+use borrow.Author.Needs.{needs}
+use borrow.Author.Tests.{not-true, not-false}
+use Rattle.tables.specs.ModelTable.{modelOf, countOf}
+use Rattle.table_test.proofs.Laws.ModelTest.{OnceLeft, once-start, once-stop, once-more, once-end, list-fits}
+use Rattle.table_test.proofs.model_test.lists_once.Statement.{statement}
+use Rattle.table_test.proofs.model_test.lists_once.Tie as tie
+
+abbrev Inv-loop : tie.InvT-loop
+Inv-loop t n marks₀ e₀ marks e = OnceLeft t marks e
+
+abbrev μ-loop : tie.MeasureT-loop
+μ-loop t n marks₀ e₀ marks e = n - e
+
+count-requires : tie.Need-count-requires Inv-loop μ-loop
+count-requires c κs = search needs
+
+loop-holds : tie.Need-loop-holds Inv-loop μ-loop
+loop-holds c = once-start (c .before .before .args .t .now)
+
+add-i : tie.Need-add-i Inv-loop μ-loop
+add-i c = search needs
+
+mul-a : tie.Need-mul-a Inv-loop μ-loop
+mul-a c = search needs
+
+shared-slice-read-a : tie.Need-shared-slice-read-a Inv-loop μ-loop
+shared-slice-read-a c = search needs
+
+add-a : tie.Need-add-a Inv-loop μ-loop
+add-a c =
+    let xs = c .before .before .before .before .before .args .t .now in
+    let f = list-fits xs (c .before .before .before .before .before .pre) (c .before .before .loop .e) (omega arith) in
+    omega arith
+
+list-length-requires : tie.Need-list-length-requires Inv-loop μ-loop
+list-length-requires c κs = search needs
+
+add-b : tie.Need-add-b Inv-loop μ-loop
+add-b c =
+    let xs = c .before .before .before .before .before .before .args .t .now in
+    let f = list-fits xs (c .before .before .before .before .before .before .pre) (c .before .before .before .loop .e) (omega arith) in
+    omega arith
+
+mul-once : tie.Need-mul-once Inv-loop μ-loop
+mul-once c =
+    let xs = c .before .before .before .before .before .before .args .t .now in
+    let f = list-fits xs (c .before .before .before .before .before .before .pre) (c .before .before .before .loop .e) (omega arith) in
+    omega arith
+
+sub-once : tie.Need-sub-once Inv-loop μ-loop
+sub-once c = search needs
+
+part-once-start : tie.Need-part-once-start Inv-loop μ-loop
+part-once-start c = search needs
+
+part-once-end : tie.Need-part-once-end Inv-loop μ-loop
+part-once-end c =
+    let xs = c .before .before .before .before .before .before .args .t .now in
+    let f = list-fits xs (c .before .before .before .before .before .before .pre) (c .before .before .before .loop .e) (omega arith) in
+    omega arith
+
+slice-aggregate-once : tie.Need-slice-aggregate-once Inv-loop μ-loop
+slice-aggregate-once c = search needs
+
+add-once : tie.Need-add-once Inv-loop μ-loop
+add-once c = search needs
+
+once-requires : tie.Need-once-requires Inv-loop μ-loop
+once-requires c κs = (c .before .before .before .before .before .loop .inv .size, λ k. omega (arith, c .before .before .before .before .before .loop .inv .most k))
+
+returns : tie.Need-returns Inv-loop μ-loop
+returns c =
+    let l = c .before .before .before .before .before .before .before .before .loop in
+    let b = c .before .before .before .before .before .before .before .before .before .before .before in
+    let h : l .e < countOf (modelOf (b .args .t .now)) = omega arith in
+    let o = c .before .before .once in
+    once-stop (b .args .t .now) (l .marks) (l .e) (c .before .before .before .before .before .list-length .result) (b .pre) (l .inv) h (c .before .before .before .before .before .list-length .ensures)
+    (o .result) (o .ensures .0) (not-true (o .result) (c .if1 .taken))
+
+add-e : tie.Need-add-e Inv-loop μ-loop
+add-e c = search needs
+
+loop-less : tie.Need-loop-less Inv-loop μ-loop
+loop-less c = search needs
+
+loop-again : tie.Need-loop-again Inv-loop μ-loop
+loop-again c =
+    let l = c .before .before .before .before .before .before .before .before .loop in
+    let b = c .before .before .before .before .before .before .before .before .before .before .before in
+    let h : l .e < countOf (modelOf (b .args .t .now)) = omega arith in
+    let o = c .before .before .once in
+    once-more (b .args .t .now) (l .marks) (l .e) (c .before .before .before .before .before .list-length .result) (b .pre) (l .inv) h (c .before .before .before .before .before .list-length .ensures)
+    (o .result) (o .last .1 .0) (o .ensures .0) (not-false (o .result) (c .if1 .left)) (o .kept .1 .0 ∙ l .inv .size) (o .ensures .1)
+
+returns-2 : tie.Need-returns-2 Inv-loop μ-loop
+returns-2 c =
+    let l = c .before .loop in
+    let b = c .before .before .before .before in
+    once-end (b .args .t .now) (l .marks) (l .e) (b .pre) (l .inv) (omega arith)
+
+pub lists-once-spec : {M : Type 1} → statement M
+lists-once-spec =
+    tie.close
+    (tie.spec
+    Inv-loop
+    μ-loop
+    count-requires
+    loop-holds
+    add-i
+    mul-a
+    shared-slice-read-a
+    add-a
+    list-length-requires
+    add-b
+    mul-once
+    sub-once
+    part-once-start
+    part-once-end
+    slice-aggregate-once
+    add-once
+    once-requires
+    returns
+    add-e
+    loop-less
+    loop-again
+    returns-2)

@@ -1,0 +1,60 @@
+-- `tables::model_test::rises` meets its contract. Assumes nothing.
+use mathlib.Core.Path.{_≡_, refl, sym, _∙_}
+use Prim.Native.Nat.{_-_}
+use borrow.Author.Needs.{needs}
+use lib.ListN.{length, drop}
+use Rattle.table_test.specs.ModelTest.{rising}
+use Rattle.table_test.proofs.Laws.Scans.{rising-more, rising-stop, rising-end}
+use Rattle.table_test.proofs.model_test.rises.Statement.{statement}
+use Rattle.table_test.proofs.model_test.rises.Tie as tie
+
+abbrev Inv-loop : tie.InvT-loop
+Inv-loop s last₀ j₀ last j = rising last (drop j s) ≡ rising 0 s
+
+abbrev μ-loop : tie.MeasureT-loop
+μ-loop s last₀ j₀ last j = length s - j
+
+loop-holds : tie.Need-loop-holds Inv-loop μ-loop
+loop-holds c = refl
+
+mul-x : tie.Need-mul-x Inv-loop μ-loop
+mul-x c = search needs
+
+shared-slice-read-x : tie.Need-shared-slice-read-x Inv-loop μ-loop
+shared-slice-read-x c = search needs
+
+returns : tie.Need-returns Inv-loop μ-loop
+returns c =
+    let l = c .before .before .before .loop in
+    sym (rising-stop (l .last) (c .before .before .before .before .args .s .now) (l .j) (c .before .before .loop-test .taken) (c .if1 .taken)) ∙ l .inv
+
+add-j : tie.Need-add-j Inv-loop μ-loop
+add-j c = search needs
+
+loop-less : tie.Need-loop-less Inv-loop μ-loop
+loop-less c = search needs
+
+loop-again : tie.Need-loop-again Inv-loop μ-loop
+loop-again c =
+    let l = c .before .before .before .loop in
+    rising-more (l .last) (c .before .before .before .before .args .s .now) (l .j) (c .before .before .loop-test .taken) (c .if1 .left) ∙ l .inv
+
+returns-2 : tie.Need-returns-2 Inv-loop μ-loop
+returns-2 c =
+    let l = c .before .loop in
+    sym (rising-end (l .last) (c .before .before .args .s .now) (l .j) (c .loop-test .left)) ∙ l .inv
+
+pub rises-spec : {M : Type 1} → statement M
+rises-spec =
+    tie.close
+    (tie.spec
+    Inv-loop
+    μ-loop
+    loop-holds
+    mul-x
+    shared-slice-read-x
+    returns
+    add-j
+    loop-less
+    loop-again
+    returns-2)

@@ -1,0 +1,64 @@
+-- `tables::scan::all_zero` meets its contract. Assumes nothing.
+use mathlib.Core.Path.{_≡_, refl, sym, _∙_}
+use Prim.Native.Nat.{_-_}
+use borrow.Author.Needs.{needs}
+use borrow.Author.Tests.{eq-eqb, ne-eqb}
+use lib.ListN.{length, getD, drop}
+use Rattle.tables.specs.Lists.{allOf}
+use Rattle.table_test.specs.ModelTest.{isZero}
+use Rattle.table_test.proofs.Laws.Scans.{all-more, all-stop, all-end}
+use Rattle.table_test.proofs.scan.all_zero.Statement.{statement}
+use Rattle.table_test.proofs.scan.all_zero.Tie as tie
+
+abbrev Inv-loop : tie.InvT-loop
+Inv-loop s j₀ j = allOf isZero (drop j s) ≡ allOf isZero s
+
+abbrev μ-loop : tie.MeasureT-loop
+μ-loop s j₀ j = length s - j
+
+loop-holds : tie.Need-loop-holds Inv-loop μ-loop
+loop-holds c = refl
+
+mul-if1 : tie.Need-mul-if1 Inv-loop μ-loop
+mul-if1 c = search needs
+
+shared-slice-read-if1 : tie.Need-shared-slice-read-if1 Inv-loop μ-loop
+shared-slice-read-if1 c = search needs
+
+returns : tie.Need-returns Inv-loop μ-loop
+returns c =
+    let l = c .before .before .before .loop in
+    let s = c .before .before .before .before .args .s .now in
+    sym (all-stop isZero s (l .j) 0 (c .before .before .loop-test .taken) (ne-eqb (getD s (l .j) 0) 0 (c .if1 .taken))) ∙ l .inv
+
+add-j : tie.Need-add-j Inv-loop μ-loop
+add-j c = search needs
+
+loop-less : tie.Need-loop-less Inv-loop μ-loop
+loop-less c = search needs
+
+loop-again : tie.Need-loop-again Inv-loop μ-loop
+loop-again c =
+    let l = c .before .before .before .loop in
+    let s = c .before .before .before .before .args .s .now in
+    all-more isZero s (l .j) 0 (c .before .before .loop-test .taken) (eq-eqb (getD s (l .j) 0) 0 (c .if1 .left)) ∙ l .inv
+
+returns-2 : tie.Need-returns-2 Inv-loop μ-loop
+returns-2 c =
+    let l = c .before .loop in
+    sym (all-end isZero (c .before .before .args .s .now) (l .j) (c .loop-test .left)) ∙ l .inv
+
+pub all-zero-spec : {M : Type 1} → statement M
+all-zero-spec =
+    tie.close
+    (tie.spec
+    Inv-loop
+    μ-loop
+    loop-holds
+    mul-if1
+    shared-slice-read-if1
+    returns
+    add-j
+    loop-less
+    loop-again
+    returns-2)

@@ -1,0 +1,31 @@
+// Tests of every cell of a part of a table.
+
+ghost use mathlib.Core.Path.{_≡_};
+ghost use Rattle.tables.specs.Lists.{allOf};
+ghost use Rattle.table_test.specs.ModelTest.{isZero, atMost};
+
+pub fn all_zero(s: &[u64]) -> bool
+    ensures { λ r. ⌜ r ≡ allOf isZero (now (s .entry)) ⌝ }
+{
+    let mut j = 0;
+    while j < s.len() {
+        if s[j] != 0 {
+            return false;
+        }
+        j += 1;
+    }
+    true
+}
+
+pub fn all_at_most(s: &[u64], n: u64) -> bool
+    ensures { λ r. ⌜ r ≡ allOf (atMost n) (now (s .entry)) ⌝ }
+{
+    let mut j = 0;
+    while j < s.len() {
+        if n < s[j] {
+            return false;
+        }
+        j += 1;
+    }
+    true
+}

@@ -1,0 +1,11 @@
+pub mod Cells
+pub mod Lists
+pub mod Starts
+pub mod Model
+pub mod ModelTable
+pub mod FileSets
+pub mod Paths
+pub mod Texts
+pub mod LogTable
+pub mod ElementsTable
+pub mod SchemaTable

@@ -1,0 +1,286 @@
+-- Laws of the model's changes, for callers: what each change leaves alone, what a read finds after it, and changes undone. Assumes nothing.
+use mathlib.Core.List.{List, [], _∷_, _++_, map, append-nil}
+use mathlib.Core.Logic.{_≢_}
+use mathlib.Core.Option.{Option, none, some}
+use mathlib.Core.Path.{_≡_, refl, sym, ap, _∙_}
+use Prim.Native.Nat.{ℕ, zero, suc, _+_, _-_, _≤_, _<_}
+use native.Mathlib.Omega.{arith}
+use lib.ListN.{length, set, getD, length-append, length-set, List·getD-append, List·getD-map}
+use lib.Seq.{getD-set-same, getD-set-other, set-set, set-getD, getD-at}
+use Rattle.tables.specs.Lists.{insertAt, removeAt, sum}
+use Rattle.tables.specs.Records.{Item, child, text, Model, contentItems, parentOf, setOf, listOf, putParent, putSet, putList, insertItem, removeItem, addToModel}
+use Rattle.tables.specs.ModelTable.{flat, startOf, countOf}
+use Rattle.tables.proofs.Laws.Lists.{length-insertAt, length-removeAt, removeAt-insertAt, insertAt-removeAt, map-set, length-flat, flat-append, flat-insert, flat-remove, start-fits}
+
+-- ---- a parent stored
+
+module _ (m : Model) (e : ℕ) (p : Option ℕ) where
+  pub sets-putParent : putParent m e p .sets ≡ m .sets
+  unfolding putParent
+  sets-putParent = refl
+
+  pub lists-putParent : putParent m e p .lists ≡ m .lists
+  unfolding putParent
+  lists-putParent = refl
+
+  pub count-putParent : countOf (putParent m e p) ≡ countOf m
+  unfolding putParent
+  count-putParent = length-set (m .parents) e p
+
+  pub total-putParent : contentItems (putParent m e p) ≡ contentItems m
+  unfolding putParent contentItems
+  total-putParent = refl
+
+  pub parent-putParent : e < countOf m → parentOf (putParent m e p) e ≡ p
+  unfolding putParent
+  parent-putParent h = getD-set-same (m .parents) e p none h
+
+  pub parent-putParent-other : (x : ℕ) → x ≢ e → parentOf (putParent m e p) x ≡ parentOf m x
+  unfolding putParent
+  parent-putParent-other x h = getD-set-other (m .parents) e x p none h
+
+  pub set-putParent : (x : ℕ) → setOf (putParent m e p) x ≡ setOf m x
+  unfolding putParent
+  set-putParent x = refl
+
+  pub list-putParent : (x : ℕ) → listOf (putParent m e p) x ≡ listOf m x
+  unfolding putParent
+  list-putParent x = refl
+
+  -- the old one stored again
+  pub putParent-back : putParent (putParent m e p) e (parentOf m e) ≡ m
+  unfolding putParent
+  putParent-back =
+      let l = set-set (m .parents) e p (parentOf m e) ∙ set-getD (m .parents) e none in
+      λ i. record { parents = l i; sets = m .sets; lists = m .lists }
+
+-- ---- a set stored
+
+module _ (m : Model) (e s : ℕ) where
+  pub parents-putSet : putSet m e s .parents ≡ m .parents
+  unfolding putSet
+  parents-putSet = refl
+
+  pub lists-putSet : putSet m e s .lists ≡ m .lists
+  unfolding putSet
+  lists-putSet = refl
+
+  pub count-putSet : countOf (putSet m e s) ≡ countOf m
+  unfolding putSet
+  count-putSet = refl
+
+  pub length-putSet : length (putSet m e s .sets) ≡ length (m .sets)
+  unfolding putSet
+  length-putSet = length-set (m .sets) e s
+
+  pub total-putSet : contentItems (putSet m e s) ≡ contentItems m
+  unfolding putSet contentItems
+  total-putSet = refl
+
+  pub set-putSet : e < length (m .sets) → setOf (putSet m e s) e ≡ s
+  unfolding putSet
+  set-putSet h = getD-set-same (m .sets) e s 0 h
+
+  pub set-putSet-other : (x : ℕ) → x ≢ e → setOf (putSet m e s) x ≡ setOf m x
+  unfolding putSet
+  set-putSet-other x h = getD-set-other (m .sets) e x s 0 h
+
+  pub parent-putSet : (x : ℕ) → parentOf (putSet m e s) x ≡ parentOf m x
+  unfolding putSet
+  parent-putSet x = refl
+
+  pub list-putSet : (x : ℕ) → listOf (putSet m e s) x ≡ listOf m x
+  unfolding putSet
+  list-putSet x = refl
+
+  pub putSet-back : putSet (putSet m e s) e (setOf m e) ≡ m
+  unfolding putSet
+  putSet-back =
+      let l = set-set (m .sets) e s (setOf m e) ∙ set-getD (m .sets) e 0 in
+      λ i. record { parents = m .parents; sets = l i; lists = m .lists }
+
+-- ---- a list stored, an item inserted, an item removed
+
+module _ (m : Model) (e : ℕ) where
+  pub putList-same : putList m e (listOf m e) ≡ m
+  unfolding putList
+  putList-same =
+      let l = set-getD (m .lists) e [] in
+      λ i. record { parents = m .parents; sets = m .sets; lists = l i }
+
+  pub putList-putList : (k l : List Item) → putList (putList m e k) e l ≡ putList m e l
+  unfolding putList
+  putList-putList k l =
+      let r = set-set (m .lists) e k l in
+      λ i. record { parents = m .parents; sets = m .sets; lists = r i }
+
+  pub list-putList : (l : List Item) → e < length (m .lists) → listOf (putList m e l) e ≡ l
+  unfolding putList
+  list-putList l h = getD-set-same (m .lists) e l [] h
+
+  pub list-putList-other : (l : List Item) (x : ℕ) → x ≢ e → listOf (putList m e l) x ≡ listOf m x
+  unfolding putList
+  list-putList-other l x h = getD-set-other (m .lists) e x l [] h
+
+module _ (m : Model) (e i : ℕ) (a : Item) where
+  pub parents-insert : insertItem m e i a .parents ≡ m .parents
+  unfolding insertItem putList
+  parents-insert = refl
+
+  pub sets-insert : insertItem m e i a .sets ≡ m .sets
+  unfolding insertItem putList
+  sets-insert = refl
+
+  pub count-insert : countOf (insertItem m e i a) ≡ countOf m
+  unfolding insertItem putList
+  count-insert = refl
+
+  pub length-insert : length (insertItem m e i a .lists) ≡ length (m .lists)
+  unfolding insertItem putList
+  length-insert = length-set (m .lists) e (insertAt (listOf m e) i a)
+
+  pub parent-insert : (x : ℕ) → parentOf (insertItem m e i a) x ≡ parentOf m x
+  unfolding insertItem putList
+  parent-insert x = refl
+
+  pub set-insert : (x : ℕ) → setOf (insertItem m e i a) x ≡ setOf m x
+  unfolding insertItem putList
+  set-insert x = refl
+
+  pub list-insert : e < length (m .lists) → listOf (insertItem m e i a) e ≡ insertAt (listOf m e) i a
+  unfolding insertItem
+  list-insert h = list-putList m e (insertAt (listOf m e) i a) h
+
+  pub list-insert-other : (x : ℕ) → x ≢ e → listOf (insertItem m e i a) x ≡ listOf m x
+  unfolding insertItem
+  list-insert-other x h = list-putList-other m e (insertAt (listOf m e) i a) x h
+
+  insert-putList-same : putList (insertItem m e i a) e (listOf m e) ≡ m
+  unfolding insertItem
+  insert-putList-same = putList-putList m e (insertAt (listOf m e) i a) (listOf m e) ∙ putList-same m e
+
+  -- inserted, and removed at the same place
+  pub remove-insert : e < length (m .lists) → i ≤ length (listOf m e) → removeItem (insertItem m e i a) e i ≡ m
+  unfolding removeItem
+  remove-insert h k =
+      ap (λ (l : List Item). putList (insertItem m e i a) e (removeAt l i)) (list-insert h)
+      ∙ ap (putList (insertItem m e i a) e) (removeAt-insertAt (listOf m e) i a k)
+      ∙ insert-putList-same
+
+module _ (m : Model) (e i : ℕ) where
+  pub parents-remove : removeItem m e i .parents ≡ m .parents
+  unfolding removeItem putList
+  parents-remove = refl
+
+  pub sets-remove : removeItem m e i .sets ≡ m .sets
+  unfolding removeItem putList
+  sets-remove = refl
+
+  pub count-remove : countOf (removeItem m e i) ≡ countOf m
+  unfolding removeItem putList
+  count-remove = refl
+
+  pub length-remove : length (removeItem m e i .lists) ≡ length (m .lists)
+  unfolding removeItem putList
+  length-remove = length-set (m .lists) e (removeAt (listOf m e) i)
+
+  pub parent-remove : (x : ℕ) → parentOf (removeItem m e i) x ≡ parentOf m x
+  unfolding removeItem putList
+  parent-remove x = refl
+
+  pub set-remove : (x : ℕ) → setOf (removeItem m e i) x ≡ setOf m x
+  unfolding removeItem putList
+  set-remove x = refl
+
+  pub list-remove : e < length (m .lists) → listOf (removeItem m e i) e ≡ removeAt (listOf m e) i
+  unfolding removeItem
+  list-remove h = list-putList m e (removeAt (listOf m e) i) h
+
+  pub list-remove-other : (x : ℕ) → x ≢ e → listOf (removeItem m e i) x ≡ listOf m x
+  unfolding removeItem
+  list-remove-other x h = list-putList-other m e (removeAt (listOf m e) i) x h
+
+  remove-putList-same : putList (removeItem m e i) e (listOf m e) ≡ m
+  unfolding removeItem
+  remove-putList-same = putList-putList m e (removeAt (listOf m e) i) (listOf m e) ∙ putList-same m e
+
+  -- removed, and inserted at the same place
+  pub insert-remove : (d : Item) → e < length (m .lists) → i < length (listOf m e) → insertItem (removeItem m e i) e i (getD (listOf m e) i d) ≡ m
+  unfolding insertItem
+  insert-remove d h k =
+      ap (λ (l : List Item). putList (removeItem m e i) e (insertAt l i (getD (listOf m e) i d))) (list-remove h)
+      ∙ ap (putList (removeItem m e i) e) (insertAt-removeAt (listOf m e) i d k)
+      ∙ remove-putList-same
+
+-- ---- one more element
+
+module _ (m : Model) (p : Option ℕ) (s : ℕ) where
+  pub count-add : countOf (addToModel m p s) ≡ countOf m + 1
+  unfolding addToModel
+  count-add = length-append (m .parents) (p ∷ [])
+
+  pub parent-add : (e : ℕ) → e < countOf m → parentOf (addToModel m p s) e ≡ parentOf m e
+  unfolding addToModel
+  parent-add e h = List·getD-append (m .parents) (p ∷ []) none e h
+
+  pub parent-add-new : parentOf (addToModel m p s) (countOf m) ≡ p
+  unfolding addToModel
+  parent-add-new = getD-at (m .parents) p [] none (countOf m) refl
+
+  pub set-add : (e : ℕ) → e < length (m .sets) → setOf (addToModel m p s) e ≡ setOf m e
+  unfolding addToModel
+  set-add e h = List·getD-append (m .sets) (s ∷ []) 0 e h
+
+  pub set-add-new : setOf (addToModel m p s) (length (m .sets)) ≡ s
+  unfolding addToModel
+  set-add-new = getD-at (m .sets) s [] 0 (length (m .sets)) refl
+
+  pub list-add : (e : ℕ) → e < length (m .lists) → listOf (addToModel m p s) e ≡ listOf m e
+  unfolding addToModel
+  list-add e h = List·getD-append (m .lists) ([] ∷ []) [] e h
+
+  pub list-add-new : listOf (addToModel m p s) (length (m .lists)) ≡ []
+  unfolding addToModel
+  list-add-new = getD-at (m .lists) [] [] [] (length (m .lists)) refl
+
+-- ---- lengths of the lists, and content items over all of them
+
+pub length-list-insert : (m : Model) (e i : ℕ) (a : Item) → e < length (m .lists)
+    → map length (set (m .lists) e (insertAt (listOf m e) i a)) ≡ set (map length (m .lists)) e (suc (getD (map length (m .lists)) e 0))
+length-list-insert m e i a h =
+    map-set length (m .lists) e (insertAt (listOf m e) i a)
+    ∙ ap (set (map length (m .lists)) e) (length-insertAt (listOf m e) i a ∙ ap suc (sym (List·getD-map length (m .lists) e [])))
+
+pub length-list-remove : (m : Model) (e i : ℕ) → e < length (m .lists) → i < length (listOf m e)
+    → map length (set (m .lists) e (removeAt (listOf m e) i)) ≡ set (map length (m .lists)) e (getD (map length (m .lists)) e 0 - 1)
+length-list-remove m e i h k =
+    let r = length-removeAt (listOf m e) i k in
+    let n : length (removeAt (listOf m e) i) ≡ length (listOf m e) - 1 = omega arith in
+    map-set length (m .lists) e (removeAt (listOf m e) i)
+    ∙ ap (set (map length (m .lists)) e) (n ∙ ap (λ (j : ℕ). j - 1) (sym (List·getD-map length (m .lists) e [])))
+
+pub total-insert : (m : Model) (e i : ℕ) (a : Item) → e < length (m .lists) → i ≤ length (listOf m e)
+    → contentItems (insertItem m e i a) ≡ suc (contentItems m)
+unfolding contentItems insertItem putList
+total-insert m e i a h k =
+    sym (length-flat (set (m .lists) e (insertAt (listOf m e) i a)))
+    ∙ ap length (flat-insert (m .lists) e i a h k)
+    ∙ length-insertAt (flat (m .lists)) (startOf (m .lists) e + i) a
+    ∙ ap suc (length-flat (m .lists))
+
+pub total-remove : (m : Model) (e i : ℕ) → e < length (m .lists) → i < length (listOf m e) → suc (contentItems (removeItem m e i)) ≡ contentItems m
+unfolding contentItems removeItem putList
+total-remove m e i h k =
+    let f = start-fits (m .lists) e h in
+    let b : startOf (m .lists) e + i < length (flat (m .lists)) = omega arith in
+    ap suc (sym (length-flat (set (m .lists) e (removeAt (listOf m e) i))) ∙ ap length (flat-remove (m .lists) e i h k))
+    ∙ length-removeAt (flat (m .lists)) (startOf (m .lists) e + i) b
+    ∙ length-flat (m .lists)
+
+pub flat-add : (ls : List (List Item)) → flat (ls ++ ([] ∷ [])) ≡ flat ls
+unfolding flat
+flat-add ls = flat-append ls ([] ∷ []) ∙ append-nil (flat ls)
+
+pub total-add : (m : Model) (p : Option ℕ) (s : ℕ) → contentItems (addToModel m p s) ≡ contentItems m
+unfolding contentItems addToModel
+total-add m p s = sym (length-flat (m .lists ++ ([] ∷ []))) ∙ ap length (flat-add (m .lists)) ∙ length-flat (m .lists)

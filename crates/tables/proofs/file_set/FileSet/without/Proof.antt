@@ -1,0 +1,18 @@
+-- `FileSet::without` meets its contract. Assumes nothing.
+use mathlib.Core.Path.{sym}
+use borrow.Author.Needs.{needs}
+use Rattle.tables.proofs.Laws.FileSets.{xor-withoutFile, one-shifted, absent-past, withoutFile-absent}
+use Rattle.tables.proofs.file_set.FileSet.without.Statement.{statement}
+use Rattle.tables.proofs.file_set.FileSet.without.Tie as tie
+
+shl-t7 : tie.Need-shl-t7
+shl-t7 c = search needs
+
+returns : tie.Need-returns
+returns c = rw (one-shifted (c .before .args .f .0) (search needs)) (xor-withoutFile (c .before .args .self .0) (c .before .args .f .0))
+
+returns-2 : tie.Need-returns-2
+returns-2 c = sym (withoutFile-absent (c .before .args .self .0) (c .before .args .f .0) (absent-past 64 (c .before .args .self .0) (c .before .args .f .0) (search needs) (c .if1 .left)))
+
+pub without-spec : {M : Type 1} → statement M
+without-spec = tie.close (tie.spec shl-t7 returns returns-2)

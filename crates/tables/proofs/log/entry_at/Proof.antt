@@ -1,0 +1,56 @@
+use borrow.Author.Needs.{needs}
+use Rattle.tables.specs.LogTable.{logOf, entryAt}
+use Rattle.tables.proofs.Laws.LogTable.{import-is, restriction-is, extension-is}
+use Rattle.tables.proofs.log.entry_at.Statement.{statement}
+use Rattle.tables.proofs.log.entry_at.Tie as tie
+
+entry-cell-requires : tie.Need-entry-cell-requires
+entry-cell-requires c κs = search needs
+
+entry-cell-requires-2 : tie.Need-entry-cell-requires-2
+entry-cell-requires-2 c κs = search needs
+
+entry-cell-requires-3 : tie.Need-entry-cell-requires-3
+entry-cell-requires-3 c κs = search needs
+
+entry-cell-requires-4 : tie.Need-entry-cell-requires-4
+entry-cell-requires-4 c κs = search needs
+
+entry-cell-requires-5 : tie.Need-entry-cell-requires-5
+entry-cell-requires-5 c κs = search needs
+
+cell-parent-requires : tie.Need-cell-parent-requires
+cell-parent-requires c κs = search needs
+
+returns : tie.Need-returns
+returns c =
+    let b = c .before .before .before .before .before .before .before .before in
+    let a = b .args in
+    import-is (entryAt (logOf (a .log .now)) (a .i)) _ _ _ _ _ (c .before .before .before .before .before .before .entry-cell .ensures) (c .before .before .before .before .before .entry-cell2 .ensures)
+    (c .before .before .before .before .entry-cell3 .ensures) (c .before .before .entry-cell4 .ensures) (c .before .entry-cell5 .ensures) _ (c .cell-parent .ensures) (c .before .before .before .if1 .taken)
+
+returns-2 : tie.Need-returns-2
+returns-2 c =
+    let a = c .before .before .before .before .before .before .args in
+    restriction-is (entryAt (logOf (a .log .now)) (a .i)) _ _ 0 0 _ (c .before .before .before .before .entry-cell .ensures) (c .before .before .before .entry-cell2 .ensures)
+    (c .before .before .entry-cell3 .ensures) (c .if2 .taken)
+
+returns-3 : tie.Need-returns-3
+returns-3 c =
+    let a = c .before .before .before .before .before .before .args in
+    extension-is (entryAt (logOf (a .log .now)) (a .i)) _ _ 0 0 _ (c .before .before .before .before .entry-cell .ensures) (c .before .before .before .entry-cell2 .ensures)
+    (c .before .before .entry-cell3 .ensures) (c .before .if1 .left) (c .if2 .left)
+
+pub entry-at-spec : {M : Type 1} → statement M
+entry-at-spec =
+    tie.close
+    (tie.spec
+    entry-cell-requires
+    entry-cell-requires-2
+    entry-cell-requires-3
+    entry-cell-requires-4
+    entry-cell-requires-5
+    cell-parent-requires
+    returns
+    returns-2
+    returns-3)

@@ -1,0 +1,61 @@
+-- `tables::model::clear` meets its contract. Assumes nothing.
+use mathlib.Core.List.{List, _++_}
+use mathlib.Core.Path.{_≡_, refl, ap, _∙_}
+use Prim.Native.Nat.{ℕ, _-_, _≤_}
+use native.Mathlib.Omega.{arith}
+use borrow.Author.Fill.{fill-more}
+use borrow.Author.Needs.{needs}
+use lib.ListN.{length, set, drop, replicate, length-set}
+use Rattle.tables.proofs.Laws.Lists.{filled}
+use Rattle.tables.proofs.model.clear.Statement.{statement}
+use Rattle.tables.proofs.model.clear.Tie as tie
+
+abbrev Inv-loop : tie.InvT-loop
+Inv-loop table₀ j₀ table j = (table ≡ replicate j 0 ++ drop j table₀) × (length table ≡ length table₀) × (j ≤ length table₀)
+
+abbrev μ-loop : tie.MeasureT-loop
+μ-loop table₀ j₀ table j = length table₀ - j
+
+loop-holds : tie.Need-loop-holds Inv-loop μ-loop
+loop-holds c = (refl, refl, omega arith)
+
+mul-table : tie.Need-mul-table Inv-loop μ-loop
+mul-table c = search needs
+
+slice-write-table : tie.Need-slice-write-table Inv-loop μ-loop
+slice-write-table c = search needs
+
+add-j : tie.Need-add-j Inv-loop μ-loop
+add-j c = search needs
+
+loop-less : tie.Need-loop-less Inv-loop μ-loop
+loop-less c = search needs
+
+loop-again : tie.Need-loop-again Inv-loop μ-loop
+loop-again c =
+    let l = c .before .loop in
+    let t = c .before .before .args .table .now in
+    (ap (λ (r : List ℕ). set r (l .j) 0) (l .inv .0) ∙ fill-more (l .j) 0 t (omega arith), simp length-set (l .inv .1), omega arith)
+
+same-length : tie.Need-same-length Inv-loop μ-loop
+same-length c = search needs
+
+returns : tie.Need-returns Inv-loop μ-loop
+returns c =
+    let l = c .before .loop in
+    filled (l .j) (l .table) (c .before .before .args .table .now) (l .inv .0) (omega arith)
+
+pub clear-spec : {M : Type 1} → statement M
+clear-spec =
+    tie.close
+    (tie.spec
+    Inv-loop
+    μ-loop
+    loop-holds
+    mul-table
+    slice-write-table
+    add-j
+    loop-less
+    loop-again
+    same-length
+    returns)

@@ -1,0 +1,124 @@
+-- `tables::model::insert_item` meets its contract. Assumes nothing.
+use mathlib.Core.Path.{_≡_, sym, _∙_}
+use Prim.Native.Nat.{suc, _+_, _-_}
+use native.Mathlib.Omega.{arith}
+use borrow.Author.Needs.{needs}
+use borrow.Rule.Slice.PartMut.{midOf}
+use Rattle.tables.specs.ModelTable.{itemIs, itemsAt, startsAt, startOf, itemCell, countOf, modelOf, shiftIn}
+use Rattle.tables.specs.Records.{contentItems}
+use Rattle.tables.proofs.Laws.ModelTable.{item-weaker, insert-starts, starts-few, store-insert}
+use Rattle.tables.proofs.model.insert_item.Statement.{statement}
+use Rattle.tables.proofs.model.insert_item.Tie as tie
+
+count-requires : tie.Need-count-requires
+count-requires c κs = search needs
+
+item-total-requires : tie.Need-item-total-requires
+item-total-requires c κs = search needs
+
+start-of-requires : tie.Need-start-of-requires
+start-of-requires c κs = search needs
+
+add-at : tie.Need-add-at
+add-at c = search needs
+
+item-cell-requires : tie.Need-item-cell-requires
+item-cell-requires c κs =
+    let b = c .before .before .before .before .before .before .before in
+    item-weaker _ _ (itemIs (b .args .a)) (b .pre .0 .sized .count) (b .pre .1 .1 .1 .1)
+
+add-end : tie.Need-add-end
+add-end c = search needs
+
+add-end-2 : tie.Need-add-end-2
+add-end-2 c = search needs
+
+sub-shift-in : tie.Need-sub-shift-in
+sub-shift-in c = search needs
+
+part-shift-in-start : tie.Need-part-shift-in-start
+part-shift-in-start c = search needs
+
+part-shift-in-end : tie.Need-part-shift-in-end
+part-shift-in-end c = search needs
+
+shift-in-requires : tie.Need-shift-in-requires
+shift-in-requires c κs = search needs
+
+add-last : tie.Need-add-last
+add-last c = search needs
+
+add-last-2 : tie.Need-add-last-2
+add-last-2 c = search needs
+
+add-later : tie.Need-add-later
+add-later c = search needs
+
+sub-raise-from : tie.Need-sub-raise-from
+sub-raise-from c = search needs
+
+part-raise-from-start : tie.Need-part-raise-from-start
+part-raise-from-start c = search needs
+
+part-raise-from-end : tie.Need-part-raise-from-end
+part-raise-from-end c = search needs
+
+-- where the items are back: how many cells were lent, and what the shift left in them
+items-lent : (c : tie.After-slice-known2) → itemsAt + c .before .before .before .before .before .before .before .item-total .result + 1 - itemsAt ≡ suc (contentItems (modelOf (c .before .before .before .before .before .before .before .before .before .before .before .before .args .model .now)))
+items-lent c = omega (arith, c .before .before .before .before .before .before .before .item-total .ensures)
+
+starts-lent : (c : tie.After-slice-known2) → startsAt + c .before .before .before .before .before .before .before .before .before .count .result + 1 - startsAt ≡ suc (countOf (modelOf (c .before .before .before .before .before .before .before .before .before .before .before .before .args .model .now)))
+starts-lent c = omega (arith, c .before .before .before .before .before .before .before .before .before .count .ensures)
+
+shifted : (c : tie.After-slice-known2) → c .before .before .shift-in .last .0
+    ≡ shiftIn
+    (midOf itemsAt (itemsAt + c .before .before .before .before .before .before .before .item-total .result + 1 - itemsAt) (c .before .before .before .before .before .before .before .before .before .before .before .before .args .model .now))
+    (startOf (modelOf (c .before .before .before .before .before .before .before .before .before .before .before .before .args .model .now) .lists) (c .before .before .before .before .before .before .before .before .before .before .before .before .args .e .0) + c .before .before .before .before .before .before .before .before .before .before .before .before .args .i)
+    (itemCell (itemIs (c .before .before .before .before .before .before .before .before .before .before .before .before .args .a)))
+shifted c = rw (c .before .before .before .before .before .start-of .ensures .is, c .before .before .before .before .item-cell .ensures) at (c .before .before .shift-in .ensures)
+
+raise-from-requires : tie.Need-raise-from-requires
+raise-from-requires c κs =
+    let d = c .before .before in
+    let b = d .before .before .before .before .before .before .before .before .before .before .before .before in
+    let xs = b .args .model .now in
+    let p = b .pre .1 in
+    let e = insert-starts xs (b .pre .0) (b .args .e .0) (b .args .i) (itemIs (b .args .a)) (p .0) (p .1 .0) (p .1 .1 .0) _ _ _ (items-lent d) (starts-lent d) (shifted d) in
+    λ n. rw e (starts-few xs (b .pre .0) n)
+
+returns : tie.Need-returns
+returns c =
+    let d = c .before .before .before .before .before in
+    let b = d .before .before .before .before .before .before .before .before .before .before .before .before in
+    let p = b .pre .1 in
+    let a = itemIs (b .args .a) in
+    let r = c .before .before .raise-from in
+    store-insert (b .args .model .now) (b .pre .0) (b .args .e .0) (b .args .i) a (p .0) (p .1 .0) (p .1 .1 .0) _ _ _ (r .last .0) (p .1 .1 .1) (items-lent d) (starts-lent d) (shifted d) (r .ensures)
+
+same-length : tie.Need-same-length
+same-length c = returns c .good .size ∙ sym (c .before .before .before .before .before .before .before .before .before .before .before .before .before .before .before .before .before .pre .0 .size)
+
+pub insert-item-spec : {M : Type 1} → statement M
+insert-item-spec =
+    tie.close
+    (tie.spec
+    count-requires
+    item-total-requires
+    start-of-requires
+    add-at
+    item-cell-requires
+    add-end
+    add-end-2
+    sub-shift-in
+    part-shift-in-start
+    part-shift-in-end
+    shift-in-requires
+    add-last
+    add-last-2
+    add-later
+    sub-raise-from
+    part-raise-from-start
+    part-raise-from-end
+    raise-from-requires
+    same-length
+    returns)

@@ -1,0 +1,30 @@
+-- `tables::model::item_cell` meets its contract. Assumes nothing.
+use Prim.Native.Nat.{_<_}
+use native.Mathlib.Omega.{arith}
+use borrow.Author.Needs.{needs}
+use Rattle.tables.specs.ModelTable.{itemCell}
+use Rattle.tables.proofs.model.item_cell.Statement.{statement}
+use Rattle.tables.proofs.model.item_cell.Tie as tie
+
+enum-known-a : tie.Need-enum-known-a
+enum-known-a c = search needs
+
+enum-known-a-2 : tie.Need-enum-known-a-2
+enum-known-a-2 c = search needs
+
+add-result : tie.Need-add-result
+add-result c =
+    let t = c .before .a2 .given .0 .0 in
+    let h : t < 2048 = rw (c .before .a2 .given .1) at (c .before .before .before .pre) in
+    omega arith
+
+returns : tie.Need-returns
+unfolding itemCell
+returns c = rw (c .before .a .given .1)
+
+returns-2 : tie.Need-returns-2
+unfolding itemCell
+returns-2 c = rw (c .before .a2 .given .1)
+
+pub item-cell-spec : {M : Type 1} → statement M
+item-cell-spec = tie.close (tie.spec enum-known-a enum-known-a-2 add-result returns returns-2)

@@ -1,0 +1,76 @@
+-- `tables::model::lower_from` meets its contract. Assumes nothing.
+use mathlib.Core.Path.{_≡_, refl, sym, _∙_}
+use Prim.Native.Nat.{ℕ, _-_, _≤_, _<_}
+use native.Mathlib.Nat.{le-refl}
+use native.Mathlib.Omega.{arith}
+use borrow.Author.Needs.{needs}
+use lib.ListN.{length, getD, length-set}
+use lib.Seq.{getD-set-other}
+use Rattle.tables.specs.ModelTable.{onFrom}
+use Rattle.tables.proofs.Laws.Lists.{onFrom-turn, onFrom-past}
+use Rattle.tables.proofs.model.lower_from.Statement.{statement}
+use Rattle.tables.proofs.model.lower_from.Tie as tie
+
+abbrev Inv-loop : tie.InvT-loop
+Inv-loop s₀ i j₀ s j = (onFrom (λ (x : ℕ). x - 1) s j ≡ onFrom (λ (x : ℕ). x - 1) s₀ i) × (length s ≡ length s₀) × ((k : ℕ) → j ≤ k → k < length s₀ → 0 < getD s k 0)
+
+abbrev μ-loop : tie.MeasureT-loop
+μ-loop s₀ i j₀ s j = length s₀ - j
+
+loop-holds : tie.Need-loop-holds Inv-loop μ-loop
+loop-holds c = (refl, refl, c .pre)
+
+mul-s : tie.Need-mul-s Inv-loop μ-loop
+mul-s c = search needs
+
+slice-read-s : tie.Need-slice-read-s Inv-loop μ-loop
+slice-read-s c = search needs
+
+sub-s : tie.Need-sub-s Inv-loop μ-loop
+sub-s c = omega (arith, c .before .before .loop .inv .2 (c .before .before .loop .j) (le-refl (c .before .before .loop .j)) (omega arith))
+
+mul-s-2 : tie.Need-mul-s-2 Inv-loop μ-loop
+mul-s-2 c = search needs
+
+slice-write-s : tie.Need-slice-write-s Inv-loop μ-loop
+slice-write-s c = search needs
+
+add-j : tie.Need-add-j Inv-loop μ-loop
+add-j c = search needs
+
+loop-less : tie.Need-loop-less Inv-loop μ-loop
+loop-less c = search needs
+
+loop-again : tie.Need-loop-again Inv-loop μ-loop
+loop-again c =
+    let l = c .before .before .loop in (
+      onFrom-turn (λ (x : ℕ). x - 1) (l .s) (l .j) (c .before .loop-test .taken) ∙ l .inv .0,
+      simp length-set (l .inv .1),
+      λ k h b. rw (getD-set-other (l .s) (l .j) k (getD (l .s) (l .j) 0 - 1) 0 (omega arith)) (l .inv .2 k (omega arith) b),
+    )
+
+same-length : tie.Need-same-length Inv-loop μ-loop
+same-length c = search needs
+
+returns : tie.Need-returns Inv-loop μ-loop
+returns c =
+    let l = c .before .loop in
+    sym (onFrom-past (λ (x : ℕ). x - 1) (l .s) (l .j) (c .loop-test .left)) ∙ l .inv .0
+
+pub lower-from-spec : {M : Type 1} → statement M
+lower-from-spec =
+    tie.close
+    (tie.spec
+    Inv-loop
+    μ-loop
+    loop-holds
+    mul-s
+    slice-read-s
+    sub-s
+    mul-s-2
+    slice-write-s
+    add-j
+    loop-less
+    loop-again
+    same-length
+    returns)

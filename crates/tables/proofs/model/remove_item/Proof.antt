@@ -1,0 +1,112 @@
+-- `tables::model::remove_item` meets its contract. Assumes nothing.
+use mathlib.Core.Path.{_≡_, sym, _∙_}
+use Prim.Native.Nat.{suc, _+_, _-_}
+use native.Mathlib.Omega.{arith}
+use borrow.Author.Needs.{needs}
+use borrow.Rule.Slice.PartMut.{midOf}
+use Rattle.tables.specs.ModelTable.{itemsAt, startsAt, startOf, countOf, modelOf, shiftOut}
+use Rattle.tables.specs.Records.{contentItems}
+use Rattle.tables.proofs.Laws.ModelTable.{remove-starts, starts-some, store-remove}
+use Rattle.tables.proofs.model.remove_item.Statement.{statement}
+use Rattle.tables.proofs.model.remove_item.Tie as tie
+
+count-requires : tie.Need-count-requires
+count-requires c κs = search needs
+
+item-total-requires : tie.Need-item-total-requires
+item-total-requires c κs = search needs
+
+start-of-requires : tie.Need-start-of-requires
+start-of-requires c κs = search needs
+
+add-at : tie.Need-add-at
+add-at c = search needs
+
+add-end : tie.Need-add-end
+add-end c = search needs
+
+sub-shift-out : tie.Need-sub-shift-out
+sub-shift-out c = search needs
+
+part-shift-out-start : tie.Need-part-shift-out-start
+part-shift-out-start c = search needs
+
+part-shift-out-end : tie.Need-part-shift-out-end
+part-shift-out-end c = search needs
+
+shift-out-requires : tie.Need-shift-out-requires
+shift-out-requires c κs = search needs
+
+add-last : tie.Need-add-last
+add-last c = search needs
+
+add-last-2 : tie.Need-add-last-2
+add-last-2 c = search needs
+
+add-next : tie.Need-add-next
+add-next c = search needs
+
+sub-lower-from : tie.Need-sub-lower-from
+sub-lower-from c = search needs
+
+part-lower-from-start : tie.Need-part-lower-from-start
+part-lower-from-start c = search needs
+
+part-lower-from-end : tie.Need-part-lower-from-end
+part-lower-from-end c = search needs
+
+-- where the items are back: how many cells were lent, and what the shift left in them
+items-lent : (c : tie.After-slice-known2) → itemsAt + c .before .before .before .before .before .before .item-total .result - itemsAt ≡ contentItems (modelOf (c .before .before .before .before .before .before .before .before .before .before .before .args .model .now))
+items-lent c = omega (arith, c .before .before .before .before .before .before .item-total .ensures)
+
+starts-lent : (c : tie.After-slice-known2) → startsAt + c .before .before .before .before .before .before .before .before .count .result + 1 - startsAt ≡ suc (countOf (modelOf (c .before .before .before .before .before .before .before .before .before .before .before .args .model .now)))
+starts-lent c = omega (arith, c .before .before .before .before .before .before .before .before .count .ensures)
+
+shifted : (c : tie.After-slice-known2) → c .before .before .shift-out .last .0
+    ≡ shiftOut
+    (midOf itemsAt (itemsAt + c .before .before .before .before .before .before .item-total .result - itemsAt) (c .before .before .before .before .before .before .before .before .before .before .before .args .model .now))
+    (startOf (modelOf (c .before .before .before .before .before .before .before .before .before .before .before .args .model .now) .lists) (c .before .before .before .before .before .before .before .before .before .before .before .args .e .0) + c .before .before .before .before .before .before .before .before .before .before .before .args .i)
+shifted c = rw (c .before .before .before .before .start-of .ensures .is) at (c .before .before .shift-out .ensures)
+
+lower-from-requires : tie.Need-lower-from-requires
+lower-from-requires c κs =
+    let d = c .before .before in
+    let b = d .before .before .before .before .before .before .before .before .before .before .before in
+    let xs = b .args .model .now in
+    let p = b .pre .1 in
+    let e = remove-starts xs (b .pre .0) (b .args .e .0) (b .args .i) (p .0) (p .1) _ _ _ (items-lent d) (starts-lent d) (shifted d) in
+    λ n h t. rw e (starts-some xs (b .pre .0) (b .args .e .0) (b .args .i) (p .1) n h (rw e at t))
+
+returns : tie.Need-returns
+returns c =
+    let d = c .before .before .before .before .before in
+    let b = d .before .before .before .before .before .before .before .before .before .before .before in
+    let p = b .pre .1 in
+    let r = c .before .before .lower-from in
+    store-remove (b .args .model .now) (b .pre .0) (b .args .e .0) (b .args .i) (p .0) (p .1) _ _ _ (r .last .0) (items-lent d) (starts-lent d) (shifted d) (r .ensures)
+
+same-length : tie.Need-same-length
+same-length c = returns c .good .size ∙ sym (c .before .before .before .before .before .before .before .before .before .before .before .before .before .before .before .before .pre .0 .size)
+
+pub remove-item-spec : {M : Type 1} → statement M
+remove-item-spec =
+    tie.close
+    (tie.spec
+    count-requires
+    item-total-requires
+    start-of-requires
+    add-at
+    add-end
+    sub-shift-out
+    part-shift-out-start
+    part-shift-out-end
+    shift-out-requires
+    add-last
+    add-last-2
+    add-next
+    sub-lower-from
+    part-lower-from-start
+    part-lower-from-end
+    lower-from-requires
+    same-length
+    returns)

@@ -1,0 +1,66 @@
+-- `tables::model::shift_in` meets its contract. Assumes nothing.
+use mathlib.Core.Path.{_≡_, sym, _∙_}
+use Prim.Native.Nat.{_-_}
+use borrow.Author.Needs.{needs}
+use lib.ListN.{length, length-set}
+use Rattle.tables.specs.ModelTable.{shiftIn}
+use Rattle.tables.proofs.Laws.Lists.{shiftIn-turn, shiftIn-past}
+use Rattle.tables.proofs.model.shift_in.Statement.{statement}
+use Rattle.tables.proofs.model.shift_in.Tie as tie
+
+abbrev Inv-loop : tie.InvT-loop
+Inv-loop s₀ i v j₀ carry₀ s j carry = (shiftIn s j carry ≡ shiftIn s₀ i v) × (length s ≡ length s₀)
+
+abbrev μ-loop : tie.MeasureT-loop
+μ-loop s₀ i v j₀ carry₀ s j carry = length s₀ - j
+
+loop-holds : tie.Need-loop-holds Inv-loop μ-loop
+loop-holds c = search needs
+
+mul-x : tie.Need-mul-x Inv-loop μ-loop
+mul-x c = search needs
+
+slice-read-x : tie.Need-slice-read-x Inv-loop μ-loop
+slice-read-x c = search needs
+
+mul-s : tie.Need-mul-s Inv-loop μ-loop
+mul-s c = search needs
+
+slice-write-s : tie.Need-slice-write-s Inv-loop μ-loop
+slice-write-s c = search needs
+
+add-j : tie.Need-add-j Inv-loop μ-loop
+add-j c = search needs
+
+loop-less : tie.Need-loop-less Inv-loop μ-loop
+loop-less c = search needs
+
+loop-again : tie.Need-loop-again Inv-loop μ-loop
+loop-again c =
+    let l = c .before .before .loop in
+    (shiftIn-turn (l .s) (l .j) (l .carry) (c .before .loop-test .taken) ∙ l .inv .0, simp length-set (l .inv .1))
+
+same-length : tie.Need-same-length Inv-loop μ-loop
+same-length c = search needs
+
+returns : tie.Need-returns Inv-loop μ-loop
+returns c =
+    let l = c .before .loop in
+    sym (shiftIn-past (l .s) (l .j) (l .carry) (c .loop-test .left)) ∙ l .inv .0
+
+pub shift-in-spec : {M : Type 1} → statement M
+shift-in-spec =
+    tie.close
+    (tie.spec
+    Inv-loop
+    μ-loop
+    loop-holds
+    mul-x
+    slice-read-x
+    mul-s
+    slice-write-s
+    add-j
+    loop-less
+    loop-again
+    same-length
+    returns)

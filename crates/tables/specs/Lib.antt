@@ -1,0 +1,13 @@
+pub mod Lists
+pub mod Limits
+pub mod Records
+pub mod FileSets
+pub mod Bytes
+pub mod Paths
+pub mod Texts
+pub mod Unfolding
+pub mod Cells
+pub mod ModelTable
+pub mod LogTable
+pub mod ElementsTable
+pub mod SchemaTable

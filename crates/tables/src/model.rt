@@ -1,0 +1,288 @@
+// The model table: the count of elements; each element's parent + 1, 0 for none; each element's set; where each element's list
+// starts among the items, and where the last one ends; the items, an element's number or 1024 + a text's number.
+
+use crate::file_set::FileSet;
+use crate::numbers::Element;
+ghost use mathlib.Core.Path.{_≡_};
+ghost use Prim.Native.Nat.{ℕ, _+_, _-_, _≤_, _<_};
+ghost use lib.ListN.{length, getD, replicate};
+ghost use Rattle.tables.specs.Limits.{elementLimit, itemLimit};
+ghost use Rattle.tables.specs.Records.{Model, child, parentOf, setOf, listOf, contentItems, putParent, putSet, insertItem, removeItem, addToModel};
+ghost use Rattle.tables.specs.ModelTable.{parentIs, itemIs, parentCell, cellParent, itemCell, cellItem, countOf, modelOf, ParentBelow, ItemBelow, GoodModel, HoldsModel, StartOf, shiftIn, shiftOut, onFrom};
+
+pub enum Parent {
+    Of(Element),
+    Missing,
+}
+
+// An entry of a content list: an element, or a text by its number.
+pub enum Item {
+    Child(Element),
+    Text(usize),
+}
+
+pub const MODEL_SIZE: usize = 5122;
+
+const PARENTS: usize = 1;
+
+const SETS: usize = 1025;
+
+const STARTS: usize = 2049;
+
+const ITEMS: usize = 3074;
+
+const TEXTS: u64 = 1024;
+
+// One cell as what it says, and back.
+
+pub fn cell_parent(c: u64) -> Parent
+    ensures { λ r. ⌜ parentIs r ≡ cellParent c ⌝ }
+{
+    if c == 0 {
+        return Parent::Missing;
+    }
+    Parent::Of(Element((c - 1) as usize))
+}
+
+pub fn parent_cell(p: Parent) -> u64
+    requires { ⌜ ParentBelow elementLimit (parentIs p) ⌝ }
+    ensures { λ r. ⌜ r ≡ parentCell (parentIs p) ⌝ }
+{
+    match p {
+        Parent::Of(e) => {
+            let i = e.0;
+            i as u64 + 1
+        }
+        Parent::Missing => 0,
+    }
+}
+
+fn cell_item(c: u64) -> Item
+    ensures { λ r. ⌜ itemIs r ≡ cellItem c ⌝ }
+{
+    if c < TEXTS {
+        return Item::Child(Element(c as usize));
+    }
+    Item::Text((c - TEXTS) as usize)
+}
+
+fn item_cell(a: Item) -> u64
+    requires { ⌜ ItemBelow elementLimit (itemIs a) ⌝ }
+    ensures { λ r. ⌜ r ≡ itemCell (itemIs a) ⌝ }
+{
+    match a {
+        Item::Child(e) => {
+            let i = e.0;
+            i as u64
+        }
+        Item::Text(t) => TEXTS + t as u64,
+    }
+}
+
+// Changes of a part in place.
+
+// The value at a place, what stands from there on moved up by one; the last falls out.
+fn shift_in(s: &mut [u64], i: usize, v: u64)
+    ensures { λ _. ⌜ now (s .exit) ≡ shiftIn (now (s .entry)) i v ⌝ }
+{
+    let mut j = i;
+    let mut carry = v;
+    while j < s.len() {
+        let x = s[j];
+        s[j] = carry;
+        carry = x;
+        j += 1;
+    }
+}
+
+// Without the entry at a place, what stands behind it moved down by one, and a zero at the end.
+fn shift_out(s: &mut [u64], i: usize)
+    requires { ⌜ i < length (now s) ⌝ }
+    ensures { λ _. ⌜ now (s .exit) ≡ shiftOut (now (s .entry)) i ⌝ }
+{
+    let mut j = i;
+    while j < s.len() - 1 {
+        s[j] = s[j + 1];
+        j += 1;
+    }
+    s[j] = 0;
+}
+
+// Each entry from a place on, and one more.
+fn raise_from(s: &mut [u64], i: usize)
+    requires { ⌜ ((k : ℕ) → getD (now s) k 0 ≤ itemLimit) ⌝ }
+    ensures { λ _. ⌜ now (s .exit) ≡ onFrom (λ (x : ℕ). x + 1) (now (s .entry)) i ⌝ }
+{
+    let mut j = i;
+    while j < s.len() {
+        s[j] = s[j] + 1;
+        j += 1;
+    }
+}
+
+// Each entry from a place on, and one less.
+fn lower_from(s: &mut [u64], i: usize)
+    requires { ⌜ ((k : ℕ) → i ≤ k → k < length (now s) → 0 < getD (now s) k 0) ⌝ }
+    ensures { λ _. ⌜ now (s .exit) ≡ onFrom (λ (x : ℕ). x - 1) (now (s .entry)) i ⌝ }
+{
+    let mut j = i;
+    while j < s.len() {
+        s[j] = s[j] - 1;
+        j += 1;
+    }
+}
+
+// Every cell of a table zero.
+pub fn clear(table: &mut [u64])
+    ensures { λ _. ⌜ now (table .exit) ≡ replicate (length (now (table .entry))) 0 ⌝ }
+{
+    let mut j = 0;
+    while j < table.len() {
+        table[j] = 0;
+        j += 1;
+    }
+}
+
+// Reads.
+
+pub fn count(model: &[u64]) -> usize
+    requires { ⌜ GoodModel (now model) ⌝ }
+    ensures { λ r. ⌜ r ≡ countOf (modelOf (now (model .entry))) ⌝ }
+{
+    model[0] as usize
+}
+
+pub fn parent_of(model: &[u64], e: Element) -> Parent
+    requires { ⌜ GoodModel (now model) ⌝ }
+    requires { ⌜ e .0 < countOf (modelOf (now model)) ⌝ }
+    ensures { λ r. ⌜ parentIs r ≡ parentOf (modelOf (now (model .entry))) (e .0) ⌝ }
+{
+    let i = PARENTS + e.0;
+    cell_parent(model[i])
+}
+
+pub fn set_of(model: &[u64], e: Element) -> FileSet
+    requires { ⌜ GoodModel (now model) ⌝ }
+    requires { ⌜ e .0 < countOf (modelOf (now model)) ⌝ }
+    ensures { λ r. ⌜ r .0 ≡ setOf (modelOf (now (model .entry))) (e .0) ⌝ }
+{
+    let i = SETS + e.0;
+    FileSet(model[i])
+}
+
+// Where the list of an element starts among the items.
+fn start_of(model: &[u64], e: Element) -> usize
+    requires { ⌜ GoodModel (now model) ⌝ }
+    requires { ⌜ e .0 < countOf (modelOf (now model)) ⌝ }
+    ensures { λ r. ⌜ StartOf (modelOf (now (model .entry))) (e .0) r ⌝ }
+{
+    let i = STARTS + e.0;
+    model[i] as usize
+}
+
+// Content items over all lists.
+pub fn item_total(model: &[u64]) -> usize
+    requires { ⌜ GoodModel (now model) ⌝ }
+    ensures { λ r. ⌜ r ≡ contentItems (modelOf (now (model .entry))) ⌝ }
+{
+    let i = STARTS + count(model);
+    model[i] as usize
+}
+
+pub fn list_length(model: &[u64], e: Element) -> usize
+    requires { ⌜ GoodModel (now model) ⌝ }
+    requires { ⌜ e .0 < countOf (modelOf (now model)) ⌝ }
+    ensures { λ r. ⌜ r ≡ length (listOf (modelOf (now (model .entry))) (e .0)) ⌝ }
+{
+    let i = STARTS + e.0;
+    let j = i + 1;
+    model[j] as usize - model[i] as usize
+}
+
+pub fn item_at(model: &[u64], e: Element, i: usize) -> Item
+    requires { ⌜ GoodModel (now model) ⌝ }
+    requires { ⌜ i < length (listOf (modelOf (now model)) (e .0)) ⌝ }
+    ensures { λ r. ⌜ itemIs r ≡ getD (listOf (modelOf (now (model .entry))) (e .0)) i (child 0) ⌝ }
+{
+    let at = start_of(model, e) + i;
+    let j = ITEMS + at;
+    cell_item(model[j])
+}
+
+// Stores.
+
+pub fn set_parent(model: &mut [u64], e: Element, p: Parent)
+    requires { ⌜ GoodModel (now model) ⌝ }
+    requires { ⌜ e .0 < countOf (modelOf (now model)) ⌝ }
+    requires { ⌜ ParentBelow (countOf (modelOf (now model))) (parentIs p) ⌝ }
+    ensures { λ _. ⌜ HoldsModel (now (model .exit)) (putParent (modelOf (now (model .entry))) (e .0) (parentIs p)) ⌝ }
+{
+    let i = PARENTS + e.0;
+    model[i] = parent_cell(p);
+}
+
+pub fn set_set(model: &mut [u64], e: Element, s: FileSet)
+    requires { ⌜ GoodModel (now model) ⌝ }
+    requires { ⌜ e .0 < countOf (modelOf (now model)) ⌝ }
+    ensures { λ _. ⌜ HoldsModel (now (model .exit)) (putSet (modelOf (now (model .entry))) (e .0) (s .0)) ⌝ }
+{
+    let at = SETS + e.0;
+    model[at] = s.0;
+}
+
+// The item at this place of the element's list.
+pub fn insert_item(model: &mut [u64], e: Element, i: usize, a: Item)
+    requires { ⌜ GoodModel (now model) ⌝ }
+    requires { ⌜ e .0 < countOf (modelOf (now model)) ⌝ }
+    requires { ⌜ i ≤ length (listOf (modelOf (now model)) (e .0)) ⌝ }
+    requires { ⌜ contentItems (modelOf (now model)) < itemLimit ⌝ }
+    requires { ⌜ ItemBelow (countOf (modelOf (now model))) (itemIs a) ⌝ }
+    ensures { λ _. ⌜ HoldsModel (now (model .exit)) (insertItem (modelOf (now (model .entry))) (e .0) i (itemIs a)) ⌝ }
+{
+    let n = count(model);
+    let total = item_total(model);
+    let at = start_of(model, e) + i;
+    let v = item_cell(a);
+    let end = ITEMS + total + 1;
+    shift_in(&mut model[ITEMS..end], at, v);
+    let last = STARTS + n + 1;
+    let later = e.0 + 1;
+    raise_from(&mut model[STARTS..last], later);
+}
+
+// The element's list without the item at this place.
+pub fn remove_item(model: &mut [u64], e: Element, i: usize)
+    requires { ⌜ GoodModel (now model) ⌝ }
+    requires { ⌜ e .0 < countOf (modelOf (now model)) ⌝ }
+    requires { ⌜ i < length (listOf (modelOf (now model)) (e .0)) ⌝ }
+    ensures { λ _. ⌜ HoldsModel (now (model .exit)) (removeItem (modelOf (now (model .entry))) (e .0) i) ⌝ }
+{
+    let n = count(model);
+    let total = item_total(model);
+    let at = start_of(model, e) + i;
+    let end = ITEMS + total;
+    shift_out(&mut model[ITEMS..end], at);
+    let last = STARTS + n + 1;
+    let next = e.0 + 1;
+    lower_from(&mut model[STARTS..last], next);
+}
+
+// One more element, with an empty list.
+pub fn add_element(model: &mut [u64], p: Parent, s: FileSet)
+    requires { ⌜ GoodModel (now model) ⌝ }
+    requires { ⌜ countOf (modelOf (now model)) < elementLimit ⌝ }
+    requires { ⌜ ParentBelow (countOf (modelOf (now model))) (parentIs p) ⌝ }
+    ensures { λ _. ⌜ HoldsModel (now (model .exit)) (addToModel (modelOf (now (model .entry))) (parentIs p) (s .0)) ⌝ }
+{
+    let n = count(model);
+    let c = parent_cell(p);
+    let i = STARTS + n;
+    let last = model[i];
+    model[0] = n as u64 + 1;
+    let j = PARENTS + n;
+    model[j] = c;
+    let k = SETS + n;
+    model[k] = s.0;
+    let l = STARTS + (n + 1);
+    model[l] = last;
+}

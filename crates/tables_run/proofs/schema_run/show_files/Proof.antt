@@ -1,0 +1,62 @@
+use Prim.Native.Nat.{_-_}
+use native.Mathlib.Omega.{arith}
+use borrow.Author.Needs.{needs}
+use Rattle.tables_run.proofs.schema_run.show_files.Statement.{statement}
+use Rattle.tables_run.proofs.schema_run.show_files.Tie as tie
+
+abbrev Inv-loop : tie.InvT-loop
+Inv-loop t n i₀ i = Unit {0}
+
+abbrev μ-loop : tie.MeasureT-loop
+μ-loop t n i₀ i = n - i
+
+file-count-requires : tie.Need-file-count-requires Inv-loop μ-loop
+file-count-requires c κs = search needs
+
+slice-aggregate-word : tie.Need-slice-aggregate-word Inv-loop μ-loop
+slice-aggregate-word c = search needs
+
+word-requires : tie.Need-word-requires Inv-loop μ-loop
+word-requires c κs = search needs
+
+number-requires : tie.Need-number-requires Inv-loop μ-loop
+number-requires c κs = search needs
+
+end-requires : tie.Need-end-requires Inv-loop μ-loop
+end-requires c κs = search needs
+
+loop-holds : tie.Need-loop-holds Inv-loop μ-loop
+loop-holds c = search needs
+
+show-file-requires : tie.Need-show-file-requires Inv-loop μ-loop
+show-file-requires c κs = (search needs, omega arith)
+
+add-i : tie.Need-add-i Inv-loop μ-loop
+add-i c = search needs
+
+loop-less : tie.Need-loop-less Inv-loop μ-loop
+loop-less c = search needs
+
+loop-again : tie.Need-loop-again Inv-loop μ-loop
+loop-again c = search needs
+
+returns : tie.Need-returns Inv-loop μ-loop
+returns c = search needs
+
+pub show-files-spec : {M : Type 1} → statement M
+show-files-spec =
+    tie.close
+    (tie.spec
+    Inv-loop
+    μ-loop
+    file-count-requires
+    slice-aggregate-word
+    word-requires
+    number-requires
+    end-requires
+    loop-holds
+    show-file-requires
+    add-i
+    loop-less
+    loop-again
+    returns)
