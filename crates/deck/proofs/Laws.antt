@@ -1,0 +1,5 @@
+pub mod Numbers
+pub mod Parts
+pub mod PathFields
+pub mod Texts
+pub mod Lines

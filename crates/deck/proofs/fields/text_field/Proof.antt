@@ -1,0 +1,104 @@
+use mathlib.Core.Option.{Option, some, bind}
+use mathlib.Core.Path.{_≡_, sym, _∙_, ap}
+use Prim.Native.Nat.{ℕ}
+use Rattle.tables.specs.Texts.{textFrom}
+use Rattle.deck.specs.Answers.{textIs, partAt}
+use Rattle.deck.proofs.Laws.Texts.{letter-e, letter-s, letter-u, letter-f, letter-none}
+use borrow.Author.Needs.{needs}
+use Rattle.deck.proofs.fields.text_field.Statement.{statement}
+use Rattle.deck.proofs.fields.text_field.Tie as tie
+use Rattle.deck.proofs.fields.text_field.Reads as reads
+use Rattle.deck.proofs.fields.text_field.Lts as lts
+use Rattle.deck.proofs.fields.number.Reads as number-reads
+use Rattle.deck.proofs.fields.number_text.Reads as number-text-reads
+use Rattle.deck.proofs.fields.string_text.Reads as string-text-reads
+
+sub-number : tie.Need-sub-number
+sub-number c = search needs
+
+part-number-start : tie.Need-part-number-start
+part-number-start c = search needs
+
+part-number-end : tie.Need-part-number-end
+part-number-end c = search needs
+
+number-requires : tie.Need-number-requires
+number-requires c κs = search needs
+
+number-text-requires : tie.Need-number-text-requires
+number-text-requires c κs = search needs
+
+string-text-requires : tie.Need-string-text-requires
+string-text-requires c κs = search needs
+
+sub-number-2 : tie.Need-sub-number-2
+sub-number-2 c = search needs
+
+part-number-start-2 : tie.Need-part-number-start-2
+part-number-start-2 c = search needs
+
+part-number-end-2 : tie.Need-part-number-end-2
+part-number-end-2 c = search needs
+
+number-requires-2 : tie.Need-number-requires-2
+number-requires-2 c κs = search needs
+
+number-text-requires-2 : tie.Need-number-text-requires-2
+number-text-requires-2 c κs = search needs
+
+sub-number-3 : tie.Need-sub-number-3
+sub-number-3 c = search needs
+
+part-number-start-3 : tie.Need-part-number-start-3
+part-number-start-3 c = search needs
+
+part-number-end-3 : tie.Need-part-number-end-3
+part-number-end-3 c = search needs
+
+number-requires-3 : tie.Need-number-requires-3
+number-requires-3 c κs = search needs
+
+number-text-requires-3 : tie.Need-number-text-requires-3
+number-text-requires-3 c κs = search needs
+
+returns : tie.Need-returns
+returns c = record { is = c .number-text .ensures .is ∙ ap (λ (o : Option ℕ). bind o (λ v. some (textFrom 0 v))) (c .before .number .ensures) ∙ rw (c .before .before .before .match .keys1) (letter-e (c .before .before .before .before .before .args .deck .now) (c .before .before .before .before .before .args .start) (c .before .before .before .before .before .args .end)); fits = c .number-text .ensures .fits }
+
+returns-2 : tie.Need-returns-2
+returns-2 c = record { is = c .string-text .ensures .is ∙ rw (c .before .match .keys2) (letter-s (c .before .before .before .args .deck .now) (c .before .before .before .args .start) (c .before .before .before .args .end)); fits = c .string-text .ensures .fits }
+
+returns-3 : tie.Need-returns-3
+returns-3 c = record { is = c .number-text2 .ensures .is ∙ ap (λ (o : Option ℕ). bind o (λ v. some (textFrom 2 v))) (c .before .number2 .ensures) ∙ rw (c .before .before .before .match .keys3) (letter-u (c .before .before .before .before .before .args .deck .now) (c .before .before .before .before .before .args .start) (c .before .before .before .before .before .args .end)); fits = c .number-text2 .ensures .fits }
+
+returns-4 : tie.Need-returns-4
+returns-4 c = record { is = c .number-text3 .ensures .is ∙ ap (λ (o : Option ℕ). bind o (λ v. some (textFrom 3 v))) (c .before .number3 .ensures) ∙ rw (c .before .before .before .match .keys4) (letter-f (c .before .before .before .before .before .args .deck .now) (c .before .before .before .before .before .args .start) (c .before .before .before .before .before .args .end)); fits = c .number-text3 .ensures .fits }
+
+returns-5 : tie.Need-returns-5
+unfolding textIs
+returns-5 c = let n = c .match .rest in record { is = sym (letter-none (c .before .before .args .letter) (partAt (c .before .before .args .deck .now) (c .before .before .args .start) (c .before .before .args .end)) (n .0 .0 .0 .1) (n .0 .0 .1) (n .0 .1) (n .1)); fits = tt }
+
+pub text-field-spec : {M : Type 1} → statement M
+text-field-spec =
+    tie.close
+    (tie.spec
+    sub-number
+    part-number-start
+    part-number-end
+    number-requires
+    number-text-requires
+    string-text-requires
+    sub-number-2
+    part-number-start-2
+    part-number-end-2
+    number-requires-2
+    number-text-requires-2
+    sub-number-3
+    part-number-start-3
+    part-number-end-3
+    number-requires-3
+    number-text-requires-3
+    returns
+    returns-2
+    returns-3
+    returns-4
+    returns-5)

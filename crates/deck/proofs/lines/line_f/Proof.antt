@@ -1,0 +1,62 @@
+use mathlib.Core.Option.{bind}
+use native.Mathlib.Omega.{arith}
+use borrow.Author.Tests.{eq-eqb, ne-eqb, lt-ltb, le-ltb}
+use Rattle.deck.specs.Deck.{only, lineF, fileField, decimal}
+use Rattle.deck.specs.Answers.{numIs, pathIs, textIs, lineIs}
+use Rattle.deck.proofs.Laws.Numbers.{read-most}
+use Rattle.deck.proofs.Laws.Lines.{fields-count}
+use borrow.Author.Needs.{needs}
+use Rattle.deck.proofs.lines.line_f.Statement.{statement}
+use Rattle.deck.proofs.lines.line_f.Tie as tie
+use Rattle.deck.proofs.lines.line_f.Reads as reads
+use Rattle.deck.proofs.lines.line_f.Lts as lts
+use Rattle.deck.proofs.lines.number_at.Reads as number-at-reads
+
+number-at-requires : tie.Need-number-at-requires
+number-at-requires c κs = search needs
+
+enum-known-file : tie.Need-enum-known-file
+enum-known-file c = search needs
+
+enum-told : tie.Need-enum-told
+enum-told c = search needs
+
+returns : tie.Need-returns
+unfolding lineIs numIs bind only lineF fileField decimal
+returns c = record { is = rw (← c .before .before .number-at .ensures, c .enum-told .given .1); fits = tt }
+
+number-at-requires-2 : tie.Need-number-at-requires-2
+number-at-requires-2 c κs = search needs
+
+enum-known-version : tie.Need-enum-known-version
+enum-known-version c = search needs
+
+enum-told-2 : tie.Need-enum-told-2
+enum-told-2 c = search needs
+
+returns-2 : tie.Need-returns-2
+unfolding lineIs numIs bind only lineF fileField decimal
+returns-2 c = record { is = rw (← c .before .before .before .before .before .before .number-at .ensures, c .before .before .before .before .file .given .1, ← c .before .before .number-at2 .ensures, c .enum-told2 .given .1); fits = tt }
+
+returns-3 : tie.Need-returns-3
+unfolding lineIs numIs bind only lineF fileField decimal
+returns-3 c = record { is = rw (← c .before .before .before .before .before .before .before .before .before .number-at .ensures, c .before .before .before .before .before .before .before .file .given .1, ← c .before .before .before .before .before .number-at2 .ensures, c .before .before .before .version .given .1, fields-count (c .before .before .before .before .before .before .before .before .before .before .before .args .deck .now) (c .before .before .before .before .before .before .before .before .before .before .before .args .f) (c .before .before .before .before .before .before .before .before .before .before .before .pre), ne-eqb _ 3 (c .if1 .taken)); fits = tt }
+
+returns-4 : tie.Need-returns-4
+unfolding lineIs numIs bind only lineF fileField decimal
+returns-4 c = record { is = rw (← c .before .before .before .before .before .before .before .before .before .number-at .ensures, c .before .before .before .before .before .before .before .file .given .1, ← c .before .before .before .before .before .number-at2 .ensures, c .before .before .before .version .given .1, fields-count (c .before .before .before .before .before .before .before .before .before .before .before .args .deck .now) (c .before .before .before .before .before .before .before .before .before .before .before .args .f) (c .before .before .before .before .before .before .before .before .before .before .before .pre), eq-eqb _ 3 (c .if1 .left)); fits = (omega (arith, read-most 10 63 _ _ _ (c .before .before .before .before .before .before .before .before .before .number-at .ensures) (c .before .before .before .before .before .before .before .file .given .1)), omega (arith, read-most 10 31 _ _ _ (c .before .before .before .before .before .number-at2 .ensures) (c .before .before .before .version .given .1))) }
+
+pub line-f-spec : {M : Type 1} → statement M
+line-f-spec =
+    tie.close
+    (tie.spec
+    number-at-requires
+    enum-known-file
+    enum-told
+    returns
+    number-at-requires-2
+    enum-known-version
+    enum-told-2
+    returns-2
+    returns-3
+    returns-4)

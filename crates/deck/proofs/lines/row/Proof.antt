@@ -1,0 +1,100 @@
+use mathlib.Core.Path.{sym}
+use Rattle.tables.specs.Lists.{firstOf}
+use Rattle.deck.specs.Deck.{byLetter}
+use Rattle.deck.specs.Answers.{fieldsOf, lineIs}
+use Rattle.deck.proofs.Laws.Lines.{kinds-none}
+use borrow.Author.Needs.{needs}
+use Rattle.deck.proofs.lines.row.Statement.{statement}
+use Rattle.deck.proofs.lines.row.Tie as tie
+use Rattle.deck.proofs.lines.row.Reads as reads
+use Rattle.deck.proofs.lines.row.Lts as lts
+use Rattle.deck.proofs.lines.line_b.Reads as line-b-reads
+use Rattle.deck.proofs.lines.line_c.Reads as line-c-reads
+use Rattle.deck.proofs.lines.line_e.Reads as line-e-reads
+use Rattle.deck.proofs.lines.line_f.Reads as line-f-reads
+use Rattle.deck.proofs.lines.line_g.Reads as line-g-reads
+use Rattle.deck.proofs.lines.line_m.Reads as line-m-reads
+use Rattle.deck.proofs.lines.line_s.Reads as line-s-reads
+use Rattle.deck.proofs.lines.line_t.Reads as line-t-reads
+
+line-t-requires : tie.Need-line-t-requires
+line-t-requires c κs = search needs
+
+line-g-requires : tie.Need-line-g-requires
+line-g-requires c κs = search needs
+
+line-s-requires : tie.Need-line-s-requires
+line-s-requires c κs = search needs
+
+line-f-requires : tie.Need-line-f-requires
+line-f-requires c κs = search needs
+
+line-m-requires : tie.Need-line-m-requires
+line-m-requires c κs = search needs
+
+line-b-requires : tie.Need-line-b-requires
+line-b-requires c κs = search needs
+
+line-e-requires : tie.Need-line-e-requires
+line-e-requires c κs = search needs
+
+line-c-requires : tie.Need-line-c-requires
+line-c-requires c κs = search needs
+
+returns : tie.Need-returns
+unfolding byLetter firstOf
+returns c = rw (c .before .match .keys1) (c .line-t .ensures)
+
+returns-2 : tie.Need-returns-2
+unfolding byLetter firstOf
+returns-2 c = rw (c .before .match .keys2) (c .line-g .ensures)
+
+returns-3 : tie.Need-returns-3
+unfolding byLetter firstOf
+returns-3 c = rw (c .before .match .keys3) (c .line-s .ensures)
+
+returns-4 : tie.Need-returns-4
+unfolding byLetter firstOf
+returns-4 c = rw (c .before .match .keys4) (c .line-f .ensures)
+
+returns-5 : tie.Need-returns-5
+unfolding byLetter firstOf
+returns-5 c = rw (c .before .match .keys5) (c .line-m .ensures (c .before .before .before .args .deck .now) (c .before .before .before .pre .0))
+
+returns-6 : tie.Need-returns-6
+unfolding byLetter firstOf
+returns-6 c = rw (c .before .match .keys6) (c .line-b .ensures)
+
+returns-7 : tie.Need-returns-7
+unfolding byLetter firstOf
+returns-7 c = rw (c .before .match .keys7) (c .line-e .ensures)
+
+returns-8 : tie.Need-returns-8
+unfolding byLetter firstOf
+returns-8 c = rw (c .before .match .keys8) (c .line-c .ensures)
+
+returns-9 : tie.Need-returns-9
+unfolding lineIs
+returns-9 c = let n = c .match .rest in record { is = sym (kinds-none (c .before .before .args .kind) (fieldsOf (c .before .before .args .deck .now) (c .before .before .args .f)) (n .0 .0 .0 .0 .0 .0 .0 .1) (n .0 .0 .0 .0 .0 .0 .1) (n .0 .0 .0 .0 .0 .1) (n .0 .0 .0 .0 .1) (n .0 .0 .0 .1) (n .0 .0 .1) (n .0 .1) (n .1)); fits = tt }
+
+pub row-spec : {M : Type 1} → statement M
+row-spec =
+    tie.close
+    (tie.spec
+    line-t-requires
+    line-g-requires
+    line-s-requires
+    line-f-requires
+    line-m-requires
+    line-b-requires
+    line-e-requires
+    line-c-requires
+    returns
+    returns-2
+    returns-3
+    returns-4
+    returns-5
+    returns-6
+    returns-7
+    returns-8
+    returns-9)

@@ -1,0 +1,74 @@
+use mathlib.Core.Path.{refl}
+use Prim.Native.Nat.{_-_}
+use native.Mathlib.Omega.{arith}
+use lib.ListN.{replicate}
+use Rattle.deck.specs.Deck.{fields}
+use Rattle.deck.specs.Answers.{partAt}
+use Rattle.deck.proofs.Laws.Lines.{Splitting, split-start, split-last, split-turn, split-full}
+use borrow.Author.Needs.{needs}
+use Rattle.deck.proofs.lines.split.Statement.{statement}
+use Rattle.deck.proofs.lines.split.Tie as tie
+use Rattle.deck.proofs.lines.split.Reads as reads
+use Rattle.deck.proofs.lines.split.Lts as lts
+use Rattle.deck.proofs.fields.find_byte.Reads as find-byte-reads
+
+abbrev Inv-loop : tie.InvT-loop
+Inv-loop deck start end starts₀ ends₀ count₀ at₀ starts ends count at = Splitting deck (fields (partAt deck start end)) end starts ends count at
+
+abbrev μ-loop : tie.MeasureT-loop
+μ-loop deck start end starts₀ ends₀ count₀ at₀ starts ends count at = 8 - count
+
+loop-holds : tie.Need-loop-holds Inv-loop μ-loop
+loop-holds c = split-start (c .before .args .deck .now) (c .before .args .start) (c .before .args .end) (replicate 8 0) (replicate 8 0) refl refl (omega arith)
+
+find-byte-requires : tie.Need-find-byte-requires Inv-loop μ-loop
+find-byte-requires c κs = search needs
+
+mul-starts : tie.Need-mul-starts Inv-loop μ-loop
+mul-starts c = search needs
+
+array-write-starts : tie.Need-array-write-starts Inv-loop μ-loop
+array-write-starts c = search needs
+
+mul-ends : tie.Need-mul-ends Inv-loop μ-loop
+mul-ends c = search needs
+
+array-write-ends : tie.Need-array-write-ends Inv-loop μ-loop
+array-write-ends c = search needs
+
+add-count : tie.Need-add-count Inv-loop μ-loop
+add-count c = search needs
+
+returns : tie.Need-returns Inv-loop μ-loop
+returns c = split-last (c .before .before .before .before .before .args .deck .now) (fields (partAt (c .before .before .before .before .before .args .deck .now) (c .before .before .before .before .before .args .start) (c .before .before .before .before .before .args .end))) (c .before .before .before .before .before .args .end) (c .before .before .before .loop .starts) (c .before .before .before .loop .ends) (c .before .before .before .loop .count) (c .before .before .before .loop .at) (c .before .find-byte .result) (omega arith) (c .before .before .before .loop .inv) (omega arith) (c .before .find-byte .ensures) (omega arith)
+
+add-at : tie.Need-add-at Inv-loop μ-loop
+add-at c = search needs
+
+loop-less : tie.Need-loop-less Inv-loop μ-loop
+loop-less c = search needs
+
+loop-again : tie.Need-loop-again Inv-loop μ-loop
+loop-again c = split-turn (c .before .before .before .before .before .args .deck .now) (fields (partAt (c .before .before .before .before .before .args .deck .now) (c .before .before .before .before .before .args .start) (c .before .before .before .before .before .args .end))) (c .before .before .before .before .before .args .end) (c .before .before .before .loop .starts) (c .before .before .before .loop .ends) (c .before .before .before .loop .count) (c .before .before .before .loop .at) (c .before .find-byte .result) (omega arith) (c .before .before .before .loop .inv) (omega arith) (c .before .find-byte .ensures) (omega arith)
+
+returns-2 : tie.Need-returns-2 Inv-loop μ-loop
+returns-2 c = split-full (c .before .before .before .args .deck .now) (fields (partAt (c .before .before .before .args .deck .now) (c .before .before .before .args .start) (c .before .before .before .args .end))) (c .before .before .before .args .end) (c .before .loop .starts) (c .before .loop .ends) (c .before .loop .count) (c .before .loop .at) (c .before .loop .inv) (omega arith)
+
+pub split-spec : {M : Type 1} → statement M
+split-spec =
+    tie.close
+    (tie.spec
+    Inv-loop
+    μ-loop
+    loop-holds
+    find-byte-requires
+    mul-starts
+    array-write-starts
+    mul-ends
+    array-write-ends
+    add-count
+    returns
+    add-at
+    loop-less
+    loop-again
+    returns-2)

@@ -1,0 +1,5 @@
+pub mod Deck
+pub mod Schema
+pub mod Load
+pub mod Answers
+pub mod Unfolding
