@@ -1,0 +1,3 @@
+pub mod Stars
+pub mod Laws
+pub mod Withdrawal

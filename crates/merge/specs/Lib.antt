@@ -1,0 +1,13 @@
+pub mod Refusals
+pub mod Range
+pub mod Pairing
+pub mod Import
+pub mod Level
+pub mod Log
+pub mod Calls
+pub mod Book
+pub mod Unfolding
+pub mod Program
+pub mod Stars
+pub mod Withdrawal
+pub mod Sound
