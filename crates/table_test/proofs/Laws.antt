@@ -1,8 +1,13 @@
 pub mod Scans
 pub mod ModelTest
-pub mod ModelKept
 pub mod RowsTest
 pub mod LogTest
 pub mod ElementsTest
 pub mod SchemaTest
 pub mod TablesTest
+pub mod PassingRows
+pub mod PassingSchema
+pub mod PassingLog
+pub mod PassingModel
+pub mod PassingElements
+pub mod Passing

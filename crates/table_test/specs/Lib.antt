@@ -4,3 +4,4 @@ pub mod LogTest
 pub mod ElementsTest
 pub mod SchemaTest
 pub mod TablesTest
+pub mod Passing

@@ -88,13 +88,13 @@ module _ (types size : ℕ) (xs : List ℕ) (h : isElementsTable types size xs �
   unfolding isElementsTable
   tested = every-at (elementsTests types size xs) h
 
-  table-size : length xs ≡ elementsSize
-  table-size = eqb-true (length xs) elementsSize (tested 0)
+  pub elements-length : length xs ≡ elementsSize
+  elements-length = eqb-true (length xs) elementsSize (tested 0)
 
-  few-elements : getD xs 0 0 ≤ elementLimit
+  pub few-elements : getD xs 0 0 ≤ elementLimit
   few-elements = leb-true (getD xs 0 0) elementLimit (tested 1)
 
-  few-texts : getD xs 1 0 ≤ itemLimit
+  pub few-texts : getD xs 1 0 ≤ itemLimit
   few-texts = leb-true (getD xs 1 0) itemLimit (tested 2)
 
   few-trees : getD xs 2 0 ≤ fileLimit
@@ -103,11 +103,11 @@ module _ (types size : ℕ) (xs : List ℕ) (h : isElementsTable types size xs �
   elements-each : (P : ElementRow → Type 0) → ((r : List ℕ) → length r ≡ 3 → elementPasses types r ≡ true → P (cellsElement r))
       → Each P (rowsOf 3 (getD xs 0 0) cellsElement (drop 3 xs))
   elements-each P f =
-      area-each 3 elementCells wide-element cellsElement (elementPasses types) elementsAt elementLimit (getD xs 0 0) xs (omega (arith, table-size)) few-elements (tested 4) P f
+      area-each 3 elementCells wide-element cellsElement (elementPasses types) elementsAt elementLimit (getD xs 0 0) xs (omega (arith, elements-length)) few-elements (tested 4) P f
 
   elements-again : cells 3 elementLimit elementCells (rowsOf 3 (getD xs 0 0) cellsElement (drop 3 xs)) ≡ take 3072 (drop 3 xs)
   elements-again =
-      area-again 3 elementCells wide-element cellsElement (elementPasses types) elementsAt elementLimit (getD xs 0 0) xs (omega (arith, table-size)) few-elements (tested 4)
+      area-again 3 elementCells wide-element cellsElement (elementPasses types) elementsAt elementLimit (getD xs 0 0) xs (omega (arith, elements-length)) few-elements (tested 4)
       (λ r e p. sym (row-is r 3 e))
 
   texts-place : drop elementsArea (drop elementsAt xs) ≡ drop textsAt xs
@@ -117,18 +117,18 @@ module _ (types size : ℕ) (xs : List ℕ) (h : isElementsTable types size xs �
   unfolding elementsOf
   texts-each P f =
       subst (λ (l : List ℕ). Each P (rowsOf 2 (getD xs 1 0) cellsText l)) (sym texts-place)
-      (area-each 2 textCells wide-text cellsText (textPasses size) textsAt itemLimit (getD xs 1 0) xs (omega (arith, table-size)) few-texts (tested 5) P f)
+      (area-each 2 textCells wide-text cellsText (textPasses size) textsAt itemLimit (getD xs 1 0) xs (omega (arith, elements-length)) few-texts (tested 5) P f)
 
   texts-again : cells 2 itemLimit textCells (rowsOf 2 (getD xs 1 0) cellsText (drop textsAt xs)) ≡ take 4096 (drop 3075 xs)
   texts-again =
-      area-again 2 textCells wide-text cellsText (textPasses size) textsAt itemLimit (getD xs 1 0) xs (omega (arith, table-size)) few-texts (tested 5) (row-text size)
+      area-again 2 textCells wide-text cellsText (textPasses size) textsAt itemLimit (getD xs 1 0) xs (omega (arith, elements-length)) few-texts (tested 5) (row-text size)
 
   trees-place : drop textsArea (drop elementsArea (drop elementsAt xs)) ≡ drop treesAt xs
   trees-place = ap (drop textsArea) texts-place ∙ drop-drop textsArea textsAt xs
 
   trees-again : cells 2 fileLimit treeCells (rowsOf 2 (getD xs 2 0) cellsTree (drop treesAt xs)) ≡ take 128 (drop 7171 xs)
   trees-again =
-      area-again 2 treeCells wide-tree cellsTree (treePasses (getD xs 0 0)) treesAt fileLimit (getD xs 2 0) xs (omega (arith, table-size)) few-trees (tested 6)
+      area-again 2 treeCells wide-tree cellsTree (treePasses (getD xs 0 0)) treesAt fileLimit (getD xs 2 0) xs (omega (arith, elements-length)) few-trees (tested 6)
       (λ r e p. sym (row-is r 2 e))
 
   element-count : length (elementsOf xs .names) ≡ getD xs 0 0
@@ -157,7 +157,7 @@ module _ (types size : ℕ) (xs : List ℕ) (h : isElementsTable types size xs �
       ≡ getD xs 0 0 ∷ getD xs 1 0 ∷ getD xs 2 0 ∷ (take 3072 (drop 3 xs) ++ (take 4096 (drop 3075 xs) ++ take 128 (drop 7171 xs))) =
       λ i. a i ∷ b i ∷ c i ∷ (d i ++ (e i ++ f i))
       in
-      sym (t ∙ areas-of xs table-size)
+      sym (t ∙ areas-of xs elements-length)
 
   sized : SizedElements (elementsOf xs)
   unfolding elementsOf
@@ -178,7 +178,7 @@ module _ (types size : ℕ) (xs : List ℕ) (h : isElementsTable types size xs �
       let n = getD xs 0 0 in
       subst (λ (k : ℕ). Each (TreeIn k) (rowsOf 2 (getD xs 2 0) cellsTree (drop textsArea (drop elementsArea (drop elementsAt xs))))) (sym element-count)
       (subst (λ (l : List ℕ). Each (TreeIn n) (rowsOf 2 (getD xs 2 0) cellsTree l)) (sym trees-place)
-      (area-each 2 treeCells wide-tree cellsTree (treePasses n) treesAt fileLimit (getD xs 2 0) xs (omega (arith, table-size)) few-trees (tested 6) (TreeIn n)
+      (area-each 2 treeCells wide-tree cellsTree (treePasses n) treesAt fileLimit (getD xs 2 0) xs (omega (arith, elements-length)) few-trees (tested 6) (TreeIn n)
       (λ r e p. (ltb-true (getD r 0 0) fileLimit (tree-tested n r p 0), ltb-true (getD r 1 0) n (tree-tested n r p 1)))))
 
   names-in : Each (λ (n : ℕ). n ≤ nameLimit) (elementsOf xs .names)
@@ -199,17 +199,10 @@ module _ (types size : ℕ) (xs : List ℕ) (h : isElementsTable types size xs �
       each-map (λ (d : ℕ). d ≤ depthLimit) depthOf (rowsOf 3 (getD xs 0 0) cellsElement (drop 3 xs))
       (elements-each (λ (r : ElementRow). r .depth ≤ depthLimit) (λ r e p. leb-true (getD r 2 0) depthLimit (element-tested types r p 2)))
 
-  -- the counts stand in the first cells
-  pub tested-count : getD xs 0 0 ≡ length (elementsOf xs .names)
-  tested-count = sym element-count
-
-  pub tested-texts : getD xs 1 0 ≡ length (elementsOf xs .texts)
-  tested-texts = sym text-count
-
 pub tested-elements : (types size : ℕ) (xs : List ℕ) → isElementsTable types size xs ≡ true → TestedElements types size xs
 tested-elements types size xs h =
     record {
-      good = record { size = table-size types size xs h; raw = raw types size xs h; sized = sized types size xs h };
+      good = record { size = elements-length types size xs h; raw = raw types size xs h; sized = sized types size xs h };
       names = names-in types size xs h;
       typesIn = types-in types size xs h;
       depths = depths-in types size xs h;

@@ -56,7 +56,8 @@ entry-in n (suc (suc (suc k))) e p o s h =
     let a = leb-true (suc (suc (suc k))) 2 (every-at (entryTests n (suc (suc (suc k))) e p o s) h 0) in
     absurd (omega arith)
 
-entry-weaker : (n : ℕ) (x : Entry) → n ≤ elementLimit → EntryIn n x → EntryFits x
+-- numbers below a count within the limit
+pub entry-weaker : (n : ℕ) (x : Entry) → n ≤ elementLimit → EntryIn n x → EntryFits x
 entry-weaker n (import e p o s) k h = (omega (arith, h .0), omega (arith, h .1), parent-weaker n elementLimit o k (h .2))
 entry-weaker n (restriction e s) k h = omega arith
 entry-weaker n (extension e f) k h = (omega (arith, h .0), h .1)
@@ -71,7 +72,7 @@ row-in n r e h = entry-in n (getD r 0 0) (getD r 1 0) (getD r 2 0) (getD r 3 0) 
 
 -- ---- a table that passes
 
-each-reverse : {A : Type 0} (P : A → Type 0) (l : List A) → Each P l → Each P (reverse l)
+pub each-reverse : {A : Type 0} (P : A → Type 0) (l : List A) → Each P l → Each P (reverse l)
 each-reverse P [] h = tt
 each-reverse P (x ∷ l) h = rw (reverse-cons x l) (each-append P (reverse l) (x ∷ []) (each-reverse P l (h .1)) (h .0, tt))
 

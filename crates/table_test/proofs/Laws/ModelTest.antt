@@ -1,40 +1,26 @@
 -- The test of a model table: a table that passes is the encoding of what it says, and each such table passes. Assumes nothing.
-use mathlib.Core.Bool.{Bool, true, false, _&&_}
-use mathlib.Core.List.{List, [], _∷_, _++_, map, append-assoc, append-nil}
+use mathlib.Core.Bool.{Bool, true, false, _&&_, and-eq-true-iff}
+use mathlib.Core.List.{List, [], _∷_, _++_, map, append-assoc}
 use mathlib.Core.Option.{Option, none, some}
 use mathlib.Core.Path.{_≡_, refl, sym, ap, _∙_, subst}
 use Prim.Native.Nat.{ℕ, zero, suc, _+_, _-_, _≤_, _<_}
 use native.Mathlib.Nat.{zero-add, add-sub-cancel-left, le-of-suc-le-suc, not-suc-le-zero}
-use native.Mathlib.Numerals.{add-one}
 use native.Mathlib.Omega.{arith}
-use borrow.Author.Tests.{eqb-true, leb-true, ltb-true, lt-ltb, le-ltb, le-leb, eq-eqb}
+use borrow.Author.Tests.{eqb-true, leb-true, ltb-true, le-leb, eq-eqb}
 use lib.Dec.{eqb, leb, ltb}
 use lib.ListN.{length, getD, take, drop, replicate, length-replicate, length-map, length-drop, take-append-drop}
-use lib.Seq.{drop-at, take-at, take-add, take-all, take-take, drop-drop, drop-cons, drop-append-add, length-take-le, getD-take, getD-drop}
+use lib.Seq.{drop-at, take-at, take-add, take-all, drop-drop, drop-cons, drop-append-add, length-take-le, getD-take, getD-drop}
 use Rattle.tables.specs.Cells.{padded, Each}
 use Rattle.tables.specs.Limits.{elementLimit, itemLimit}
-use Rattle.tables.specs.Lists.{anyOf, allOf, sum}
-use Rattle.tables.specs.Records.{Item, child, text, Model, contentItems, listOf}
+use Rattle.tables.specs.Lists.{allOf, sum}
+use Rattle.tables.specs.Records.{Item, child, text, contentItems, listOf}
 use Rattle.tables.specs.ModelTable.{parentsAt, setsAt, startsAt, itemsAt, modelSize, parentCell, cellParent, itemCell, cellItem, sums, gaps, gapsOf, flat, startOf, cut, countOf, encodeModel, modelOf, ParentBelow, ItemBelow, SizedModel, GoodModel}
 use Rattle.table_test.specs.ModelTest.{onceIn, between, isZero, atMost, rising, itemInRange, cellInRange, countIn, totalIn, modelShape, modelUnused, modelUsed, modelOnce, isModelTable, Shaped, TestedModel}
 use Rattle.tables.proofs.Laws.Cells.{getD-zeros, mid-padded}
 use Rattle.table_test.proofs.Laws.Scans.{all-more, all-stop, all-end}
 use Rattle.tables.proofs.Laws.ModelTable.{cellItem-child, cellItem-text, cellItem-back, read-count, read-start, start-room, start-total, items-back, starts-back, parentCells, setCells, startCells, itemCells, around-parents, around-sets, around-starts, around-items, before-sets, before-starts, before-items, length-startsUsed, length-itemsUsed}
 
--- ---- tests joined
-
-pub and-left : (a b : Bool) → a && b ≡ true → a ≡ true
-and-left true b h = refl
-and-left false b h = h
-
-pub and-right : (a b : Bool) → a && b ≡ true → b ≡ true
-and-right true b h = h
-and-right false b h = absurd (no-true h)
-  where
-    no-true : false ≡ true → ⊥
-    no-true e =
-        let z : _≡_ {A = ℕ} 0 1 = cc in
-        omega arith
+-- ---- every entry passes
 
 pub all-head : {A : Type 0} (t : A → Bool) (a : A) (l : List A) → allOf t (a ∷ l) ≡ true → t a ≡ true
 unfolding allOf
@@ -75,7 +61,7 @@ map-items (c ∷ l) = λ i. itemCell-back c i ∷ map-items l i
 
 -- ---- zeros
 
-zeros-are : (l : List ℕ) → allOf isZero l ≡ true → l ≡ replicate (length l) 0
+pub zeros-are : (l : List ℕ) → allOf isZero l ≡ true → l ≡ replicate (length l) 0
 zeros-are [] h = refl
 zeros-are (c ∷ l) h = λ i. eqb-true c 0 (all-head isZero c l h) i ∷ zeros-are l (all-tail isZero c l h) i
 
@@ -102,11 +88,11 @@ area-zeros xs a n room h l z =
 
 rising-here : (a s : ℕ) (ss : List ℕ) → rising a (s ∷ ss) ≡ true → a ≤ s
 unfolding rising
-rising-here a s ss h = leb-true a s (and-left (leb a s) (rising s ss) h)
+rising-here a s ss h = leb-true a s (and-eq-true-iff (leb a s) (rising s ss) .0 h .0)
 
 rising-rest : (a s : ℕ) (ss : List ℕ) → rising a (s ∷ ss) ≡ true → rising s ss ≡ true
 unfolding rising
-rising-rest a s ss h = and-right (leb a s) (rising s ss) h
+rising-rest a s ss h = and-eq-true-iff (leb a s) (rising s ss) .0 h .1
 
 rising-last : (a : ℕ) (ss : List ℕ) → rising a ss ≡ true → getD (a ∷ ss) (length ss) 0 ≤ itemLimit
 unfolding rising
@@ -211,12 +197,12 @@ shaped xs h =
     let b2 = leb n elementLimit in
     let b3 = eqb (getD xs startsAt 0) 0 in
     let b4 = rising 0 ss in
-    let h2 : b2 && (b3 && b4) ≡ true = and-right b1 (b2 && (b3 && b4)) h in
-    let h3 : b3 && b4 ≡ true = and-right b2 (b3 && b4) h2 in
-    let size : length xs ≡ modelSize = eqb-true (length xs) modelSize (and-left b1 (b2 && (b3 && b4)) h) in
-    let count : n ≤ elementLimit = leb-true n elementLimit (and-left b2 (b3 && b4) h2) in
-    let first : getD xs startsAt 0 ≡ 0 = eqb-true (getD xs startsAt 0) 0 (and-left b3 b4 h3) in
-    let rises : rising 0 ss ≡ true = and-right b3 b4 h3 in
+    let h2 : b2 && (b3 && b4) ≡ true = and-eq-true-iff b1 (b2 && (b3 && b4)) .0 h .1 in
+    let h3 : b3 && b4 ≡ true = and-eq-true-iff b2 (b3 && b4) .0 h2 .1 in
+    let size : length xs ≡ modelSize = eqb-true (length xs) modelSize (and-eq-true-iff b1 (b2 && (b3 && b4)) .0 h .0) in
+    let count : n ≤ elementLimit = leb-true n elementLimit (and-eq-true-iff b2 (b3 && b4) .0 h2 .0) in
+    let first : getD xs startsAt 0 ≡ 0 = eqb-true (getD xs startsAt 0) 0 (and-eq-true-iff b3 b4 .0 h3 .0) in
+    let rises : rising 0 ss ≡ true = and-eq-true-iff b3 b4 .0 h3 .1 in
     record { size = size; count = count; first = first; rises = rises; total = rw (← last-is xs size count first) (rising-last 0 ss rises) }
 
 -- ---- a table that passes
@@ -239,7 +225,7 @@ each-items n texts [] k h = tt
 each-items n texts (a ∷ l) k h =
     (item-range n texts a k (all-head (itemInRange n texts) a l h), each-items n texts l k (all-tail (itemInRange n texts) a l h))
 
-all-map : {A B : Type 0} (t : B → Bool) (f : A → B) (l : List A) → allOf t (map f l) ≡ allOf (λ (a : A). t (f a)) l
+pub all-map : {A B : Type 0} (t : B → Bool) (f : A → B) (l : List A) → allOf t (map f l) ≡ allOf (λ (a : A). t (f a)) l
 unfolding allOf
 all-map t f [] = refl
 all-map t f (a ∷ l) = ap (λ (b : Bool). elim (t (f a)) [ true ↦ b | false ↦ false ]) (all-map t f l)
@@ -258,9 +244,9 @@ unused-parts xs h =
     let b2 = allOf isZero (between (setsAt + countIn xs) startsAt xs) in
     let b3 = allOf isZero (between (startsAt + 1 + countIn xs) itemsAt xs) in
     let b4 = allOf isZero (between (itemsAt + totalIn xs) modelSize xs) in
-    let h2 : b2 && (b3 && b4) ≡ true = and-right b1 (b2 && (b3 && b4)) h in
-    let h3 : b3 && b4 ≡ true = and-right b2 (b3 && b4) h2 in
-    record { parents = and-left b1 (b2 && (b3 && b4)) h; sets = and-left b2 (b3 && b4) h2; starts = and-left b3 b4 h3; items = and-right b3 b4 h3 }
+    let h2 : b2 && (b3 && b4) ≡ true = and-eq-true-iff b1 (b2 && (b3 && b4)) .0 h .1 in
+    let h3 : b3 && b4 ≡ true = and-eq-true-iff b2 (b3 && b4) .0 h2 .1 in
+    record { parents = and-eq-true-iff b1 (b2 && (b3 && b4)) .0 h .0; sets = and-eq-true-iff b2 (b3 && b4) .0 h2 .0; starts = and-eq-true-iff b3 b4 .0 h3 .0; items = and-eq-true-iff b3 b4 .0 h3 .1 }
 
 -- the table, cut into its areas
 areas-of : (xs : List ℕ) → length xs ≡ modelSize
@@ -364,7 +350,7 @@ module _ (texts : ℕ) (xs : List ℕ) (few : texts ≤ itemLimit) (s : Shaped x
   items-tested v =
       let b1 = allOf (atMost (countIn xs)) (between parentsAt (parentsAt + countIn xs) xs) in
       let b2 = allOf (cellInRange (countIn xs) texts) (between itemsAt (itemsAt + totalIn xs) xs) in
-      let h : b2 ≡ true = and-right b1 b2 v in
+      let h : b2 ≡ true = and-eq-true-iff b1 b2 .0 v .1 in
       ap (λ (n : ℕ). allOf (itemInRange n texts) (flat (modelOf xs .lists))) count-is
       ∙ ap (allOf (itemInRange (countIn xs) texts)) flat-is
       ∙ all-map (itemInRange (countIn xs) texts) cellItem (take (totalIn xs) (drop itemsAt xs))
@@ -377,7 +363,7 @@ module _ (texts : ℕ) (xs : List ℕ) (few : texts ≤ itemLimit) (s : Shaped x
       let n = countIn xs in
       let b1 = allOf (atMost n) (between parentsAt (parentsAt + n) xs) in
       let b2 = allOf (cellInRange n texts) (between itemsAt (itemsAt + totalIn xs) xs) in
-      let h : b1 ≡ true = and-left b1 b2 v in
+      let h : b1 ≡ true = and-eq-true-iff b1 b2 .0 v .0 in
       let k : allOf (atMost n) (take n (drop parentsAt xs)) ≡ true = ap (λ (i : ℕ). allOf (atMost n) (take i (drop parentsAt xs))) (sym (add-sub-cancel-left parentsAt n)) ∙ h in
       subst (λ (i : ℕ). Each (ParentBelow i) (map cellParent (take n (drop parentsAt xs)))) (sym count-is) (each-parents n (take n (drop parentsAt xs)) k)
 
@@ -414,14 +400,14 @@ tested texts xs few h =
     let b2 = modelUnused xs in
     let b3 = modelUsed texts xs in
     let b4 = modelOnce (modelOf xs) in
-    let h2 : b2 && (b3 && b4) ≡ true = and-right b1 (b2 && (b3 && b4)) h in
-    let h3 : b3 && b4 ≡ true = and-right b2 (b3 && b4) h2 in
-    let s = shaped xs (and-left b1 (b2 && (b3 && b4)) h) in
-    let v : modelUsed texts xs ≡ true = and-left b3 b4 h3 in
+    let h2 : b2 && (b3 && b4) ≡ true = and-eq-true-iff b1 (b2 && (b3 && b4)) .0 h .1 in
+    let h3 : b3 && b4 ≡ true = and-eq-true-iff b2 (b3 && b4) .0 h2 .1 in
+    let s = shaped xs (and-eq-true-iff b1 (b2 && (b3 && b4)) .0 h .0) in
+    let v : modelUsed texts xs ≡ true = and-eq-true-iff b3 b4 .0 h3 .0 in
     record {
-      good = tested-good texts xs few (and-left b1 (b2 && (b3 && b4)) h) (and-left b2 (b3 && b4) h2) v;
+      good = tested-good texts xs few (and-eq-true-iff b1 (b2 && (b3 && b4)) .0 h .0) (and-eq-true-iff b2 (b3 && b4) .0 h2 .0) v;
       items = items-tested texts xs few s v;
-      once = and-right b3 b4 h3;
+      once = and-eq-true-iff b3 b4 .0 h3 .1;
     }
 
 -- ---- one list of a good table
@@ -478,7 +464,7 @@ once-end xs marks e g o h = sym (all-end onceIn (modelOf xs .lists) e (omega (ar
 
 -- ---- each good table whose texts are texts, with no element twice in a list, passes
 
-all-zeros : (n : ℕ) → allOf isZero (replicate n 0) ≡ true
+pub all-zeros : (n : ℕ) → allOf isZero (replicate n 0) ≡ true
 unfolding allOf
 all-zeros zero = refl
 all-zeros (suc n) = all-zeros n

@@ -1,11 +1,10 @@
 -- The test of an area of rows: the loop that makes it, and an area that passes is the encoding of what it says. Assumes nothing.
-use mathlib.Core.Bool.{Bool, true, false, _&&_}
+use mathlib.Core.Bool.{Bool, true, false, _&&_, and-eq-true-iff}
 use mathlib.Core.List.{List, [], _∷_}
 use mathlib.Core.Path.{_≡_, refl, sym, ap, _∙_}
 use Prim.Native.Nat.{ℕ, zero, suc, _+_, _*_, _-_, _≤_, _<_}
 use native.Mathlib.Nat.{zero-add, suc-add, suc-mul, add-sub-cancel-left, mul-le-mul-right, le-of-suc-le-suc, not-suc-le-zero}
 use native.Mathlib.Omega.{arith}
-use borrow.Author.Tests.{eqb-true}
 use lib.ListN.{length, getD, take, drop, replicate, length-replicate, length-drop, drop-of-length-le}
 use lib.Seq.{take-all, take-take, drop-cons, length-take-le}
 use Rattle.tables.specs.Cells.{Each, cells, rowsOf, rowAt}
@@ -14,24 +13,20 @@ use Rattle.table_test.specs.ModelTest.{between, isZero}
 use Rattle.table_test.specs.RowsTest.{every, rowsIn, areaPasses}
 use Rattle.tables.proofs.Laws.Cells.{cells-again, getD-rowsOf, length-rowsOf}
 use Rattle.table_test.proofs.Laws.Scans.{all-more, all-stop, all-end}
-use Rattle.table_test.proofs.Laws.ModelTest.{and-left, and-right, all-head, all-tail}
+use Rattle.table_test.proofs.Laws.ModelTest.{all-head, all-tail, zeros-are}
 
 -- ---- tests joined
 
 pub every-at : (bs : List Bool) → every bs ≡ true → (i : ℕ) → getD bs i true ≡ true
 every-at [] h i = refl
-every-at (b ∷ bs) h zero = and-left b (every bs) h
-every-at (b ∷ bs) h (suc i) = every-at bs (and-right b (every bs) h) i
+every-at (b ∷ bs) h zero = and-eq-true-iff b (every bs) .0 h .0
+every-at (b ∷ bs) h (suc i) = every-at bs (and-eq-true-iff b (every bs) .0 h .1) i
 
 module _ {A : Type 0} (t : A → Bool) where
   pub all-at : (l : List A) (i : ℕ) (d : A) → allOf t l ≡ true → i < length l → t (getD l i d) ≡ true
   all-at [] i d h k = absurd (not-suc-le-zero k)
   all-at (a ∷ l) zero d h k = all-head t a l h
   all-at (a ∷ l) (suc i) d h k = all-at l i d (all-tail t a l h) (le-of-suc-le-suc k)
-
-zeros-are : (l : List ℕ) → allOf isZero l ≡ true → l ≡ replicate (length l) 0
-zeros-are [] h = refl
-zeros-are (c ∷ l) h = λ i. eqb-true c 0 (all-head isZero c l h) i ∷ zeros-are l (all-tail isZero c l h) i
 
 -- ---- a row by its cells
 
@@ -139,12 +134,12 @@ module _ {A : Type 0} (w : ℕ) (enc : A → List ℕ) (wide : (a : A) → lengt
 
       rows-pass : allOf t (rowsIn w n area) ≡ true
       unfolding areaPasses
-      rows-pass = and-left (allOf t (rowsIn w n area)) (allOf isZero (drop (n * w) area)) passes
+      rows-pass = and-eq-true-iff (allOf t (rowsIn w n area)) (allOf isZero (drop (n * w) area)) .0 passes .0
 
       rest-zero : drop (n * w) area ≡ replicate (room * w - n * w) 0
       unfolding areaPasses
       rest-zero =
-          let z = and-right (allOf t (rowsIn w n area)) (allOf isZero (drop (n * w) area)) passes in
+          let z = and-eq-true-iff (allOf t (rowsIn w n area)) (allOf isZero (drop (n * w) area)) .0 passes .1 in
           zeros-are (drop (n * w) area) z
           ∙ ap (λ (k : ℕ). replicate k 0) (length-drop (n * w) area ∙ ap (λ (k : ℕ). k - n * w) area-size)
 

@@ -1,13 +1,12 @@
 -- Laws of scans: every entry tested, entries that do not fall, and no element twice in a list. Assumes nothing.
-use mathlib.Core.Bool.{Bool, true, false, _&&_}
+use mathlib.Core.Bool.{Bool, true, false}
 use mathlib.Core.List.{List, [], _∷_, map}
-use mathlib.Core.Path.{_≡_, refl, sym, ap, _∙_, subst}
+use mathlib.Core.Path.{_≡_, refl, sym, ap, _∙_}
 use Prim.Native.Nat.{ℕ, zero, suc, _+_, _-_, _≤_, _<_}
-use native.Mathlib.Nat.{not-suc-le-zero}
 use native.Mathlib.Numerals.{add-one}
 use native.Mathlib.Omega.{arith}
 use borrow.Author.Tests.{eqb-true, eqb-false, eq-eqb, ne-eqb, le-leb, lt-leb}
-use lib.Dec.{eqb, leb, ltb}
+use lib.Dec.{eqb, leb}
 use lib.ListN.{length, set, getD, drop, drop-of-length-le, length-set}
 use lib.Seq.{drop-cons, drop-length, getD-set-same, getD-set-other}
 use Rattle.tables.specs.Limits.{elementLimit, itemLimit}
@@ -32,17 +31,6 @@ pub all-end : {A : Type 0} (t : A → Bool) (s : List A) (j : ℕ) → length s 
 unfolding allOf
 all-end t s j h = rw (drop-of-length-le s h)
 
--- a failed entry fails the whole
-pub all-fails : {A : Type 0} (t : A → Bool) (s : List A) (j : ℕ) → allOf t (drop j s) ≡ false → allOf t s ≡ false
-unfolding allOf
-all-fails t s zero h = h
-all-fails t [] (suc j) h = h
-all-fails t (x ∷ s) (suc j) h = by (t x) (all-fails t s j h)
-  where
-    by : (b : Bool) → allOf t s ≡ false → elim b [ true ↦ allOf t s | false ↦ false ] ≡ false
-    by true e = e
-    by false e = refl
-
 -- ---- entries that do not fall
 
 module _ (a : ℕ) (s : List ℕ) (j : ℕ) where
@@ -60,7 +48,8 @@ module _ (a : ℕ) (s : List ℕ) (j : ℕ) where
 
 -- ---- no element twice in a list
 
-any-text : (t : ℕ) (l : List Item) → anyOf (sameChild (text t)) l ≡ false
+-- no item is the same child as a text
+pub any-text : (t : ℕ) (l : List Item) → anyOf (sameChild (text t)) l ≡ false
 unfolding anyOf sameChild
 any-text t [] = refl
 any-text t (child e ∷ l) = any-text t l

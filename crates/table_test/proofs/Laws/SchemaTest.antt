@@ -1,5 +1,5 @@
 -- The test of a schema table: the loop over its files, and a table that passes is the encoding of what it says. Assumes nothing.
-use mathlib.Core.Bool.{Bool, true, false, _&&_}
+use mathlib.Core.Bool.{Bool, true, false, _&&_, and-eq-true-iff}
 use mathlib.Core.List.{List, [], _∷_, _++_}
 use mathlib.Core.Path.{_≡_, refl, sym, ap, _∙_, subst}
 use Prim.Native.Nat.{ℕ, zero, suc, _+_, _*_, _≤_, _<_}
@@ -20,7 +20,6 @@ use Rattle.table_test.specs.ElementsTest.{nameLimit}
 use Rattle.table_test.specs.RowsTest.{every, rowsIn, areaPasses}
 use Rattle.table_test.specs.SchemaTest.{maskLimit, pathTests, pathPasses, typeTests, typePasses, groupTests, groupPasses, rowTests, rowPasses, fileTests, filesPass, fileAreaPasses, schemaTests, isSchemaTable, TypeIn, GroupIn, RowIn, FilesIn, TestedSchema}
 use Rattle.tables.proofs.Laws.Cells.{length-rowsOf}
-use Rattle.table_test.proofs.Laws.ModelTest.{and-left, and-right}
 use Rattle.tables.proofs.Laws.SchemaTable.{length-front, wide-type, wide-group, wide-row, wide-file, group-cells, row-cells, type-cells}
 use Rattle.table_test.proofs.Laws.RowsTest.{every-at, row-is, row-at, row-count, rest-is, area-again, area-each}
 
@@ -160,8 +159,8 @@ files-in (suc n) low s h =
     let f = getD (take 2 s) 0 0 in
     let v = getD (take 2 s) 1 0 in
     let rest = filesPass (f + 1) (rowsIn 2 n (drop 2 s)) in
-    let t = every-at (fileTests low f v) (and-left (every (fileTests low f v)) rest h) in
-    (leb-true low f (t 0), ltb-true f fileLimit (t 1), ltb-true v versionLimit (t 2), files-in n (f + 1) (drop 2 s) (and-right (every (fileTests low f v)) rest h))
+    let t = every-at (fileTests low f v) (and-eq-true-iff (every (fileTests low f v)) rest .0 h .0) in
+    (leb-true low f (t 0), ltb-true f fileLimit (t 1), ltb-true v versionLimit (t 2), files-in n (f + 1) (drop 2 s) (and-eq-true-iff (every (fileTests low f v)) rest .0 h .1))
 
 abbrev anyRow : List ℕ → Bool
 anyRow r = true
@@ -174,11 +173,11 @@ all-any (r ∷ l) = all-any l
 file-area : (n : ℕ) (s : List ℕ) → fileAreaPasses n s ≡ true → areaPasses anyRow 2 n s ≡ true
 unfolding fileAreaPasses areaPasses
 file-area n s h =
-    ap (λ (b : Bool). b && allOf isZero (drop (n * 2) s)) (all-any (rowsIn 2 n s)) ∙ and-right (filesPass 0 (rowsIn 2 n s)) (allOf isZero (drop (n * 2) s)) h
+    ap (λ (b : Bool). b && allOf isZero (drop (n * 2) s)) (all-any (rowsIn 2 n s)) ∙ and-eq-true-iff (filesPass 0 (rowsIn 2 n s)) (allOf isZero (drop (n * 2) s)) .0 h .1
 
 file-rows : (n : ℕ) (s : List ℕ) → fileAreaPasses n s ≡ true → filesPass 0 (rowsIn 2 n s) ≡ true
 unfolding fileAreaPasses
-file-rows n s h = and-left (filesPass 0 (rowsIn 2 n s)) (allOf isZero (drop (n * 2) s)) h
+file-rows n s h = and-eq-true-iff (filesPass 0 (rowsIn 2 n s)) (allOf isZero (drop (n * 2) s)) .0 h .0
 
 -- ---- a table that passes
 
@@ -216,8 +215,8 @@ module _ (xs : List ℕ) (h : isSchemaTable xs ≡ true) where
   unfolding isSchemaTable
   tested = every-at (schemaTests xs) h
 
-  table-size : length xs ≡ schemaSize
-  table-size = eqb-true (length xs) schemaSize (tested 0)
+  pub schema-length : length xs ≡ schemaSize
+  schema-length = eqb-true (length xs) schemaSize (tested 0)
 
   few-types : getD xs 0 0 ≤ typeLimit
   few-types = leb-true (getD xs 0 0) typeLimit (tested 1)
@@ -233,43 +232,43 @@ module _ (xs : List ℕ) (h : isSchemaTable xs ≡ true) where
 
   types-again : cells 3 typeLimit typeCells (rowsOf 3 (getD xs 0 0) cellsType (drop typesAt xs)) ≡ take 384 (drop 4 xs)
   types-again =
-      area-again 3 typeCells wide-type cellsType typePasses typesAt typeLimit (getD xs 0 0) xs (omega (arith, table-size)) few-types (tested 5) type-again
+      area-again 3 typeCells wide-type cellsType typePasses typesAt typeLimit (getD xs 0 0) xs (omega (arith, schema-length)) few-types (tested 5) type-again
 
   groups-again : cells 6 groupLimit groupCells (rowsOf 6 (getD xs 1 0) cellsGroup (drop groupsAt xs)) ≡ take 768 (drop 388 xs)
   groups-again =
-      area-again 6 groupCells wide-group cellsGroup groupPasses groupsAt groupLimit (getD xs 1 0) xs (omega (arith, table-size)) few-groups (tested 6) group-again
+      area-again 6 groupCells wide-group cellsGroup groupPasses groupsAt groupLimit (getD xs 1 0) xs (omega (arith, schema-length)) few-groups (tested 6) group-again
 
   rows-again : cells 9 rowLimit subElementCells (rowsOf 9 (getD xs 2 0) cellsSubElement (drop rowsAt xs)) ≡ take 4608 (drop 1156 xs)
   rows-again =
-      area-again 9 subElementCells wide-row cellsSubElement rowPasses rowsAt rowLimit (getD xs 2 0) xs (omega (arith, table-size)) few-rows (tested 7) row-again
+      area-again 9 subElementCells wide-row cellsSubElement rowPasses rowsAt rowLimit (getD xs 2 0) xs (omega (arith, schema-length)) few-rows (tested 7) row-again
 
   files-again : cells 2 fileLimit fileCells (rowsOf 2 (getD xs 3 0) cellsFile (drop filesAt xs)) ≡ take 128 (drop 5764 xs)
   files-again =
-      area-again 2 fileCells wide-file cellsFile anyRow filesAt fileLimit (getD xs 3 0) xs (omega (arith, table-size)) few-files
+      area-again 2 fileCells wide-file cellsFile anyRow filesAt fileLimit (getD xs 3 0) xs (omega (arith, schema-length)) few-files
       (file-area (getD xs 3 0) (between filesAt schemaSize xs) (tested 8)) (λ r e p. sym (row-is r 2 e))
 
   types-each : Each TypeIn (schemaOf xs .types)
   unfolding schemaOf
   types-each =
-      area-each 3 typeCells wide-type cellsType typePasses typesAt typeLimit (getD xs 0 0) xs (omega (arith, table-size)) few-types (tested 5) TypeIn
+      area-each 3 typeCells wide-type cellsType typePasses typesAt typeLimit (getD xs 0 0) xs (omega (arith, schema-length)) few-types (tested 5) TypeIn
       (λ r e p. ltb-true (getD r 2 0) maskLimit (type-tested r p 2))
 
   groups-each : (P : Group → Type 0) → ((r : List ℕ) → length r ≡ 6 → groupPasses r ≡ true → P (cellsGroup r)) → Each P (schemaOf xs .groups)
   unfolding schemaOf
   groups-each P f =
       subst (λ (l : List ℕ). Each P (rowsOf 6 (getD xs 1 0) cellsGroup l)) (sym (groups-place xs))
-      (area-each 6 groupCells wide-group cellsGroup groupPasses groupsAt groupLimit (getD xs 1 0) xs (omega (arith, table-size)) few-groups (tested 6) P f)
+      (area-each 6 groupCells wide-group cellsGroup groupPasses groupsAt groupLimit (getD xs 1 0) xs (omega (arith, schema-length)) few-groups (tested 6) P f)
 
   rows-each : (P : SubElement → Type 0) → ((r : List ℕ) → length r ≡ 9 → rowPasses r ≡ true → P (cellsSubElement r)) → Each P (schemaOf xs .subElements)
   unfolding schemaOf
   rows-each P f =
       subst (λ (l : List ℕ). Each P (rowsOf 9 (getD xs 2 0) cellsSubElement l)) (sym (rows-place xs))
-      (area-each 9 subElementCells wide-row cellsSubElement rowPasses rowsAt rowLimit (getD xs 2 0) xs (omega (arith, table-size)) few-rows (tested 7) P f)
+      (area-each 9 subElementCells wide-row cellsSubElement rowPasses rowsAt rowLimit (getD xs 2 0) xs (omega (arith, schema-length)) few-rows (tested 7) P f)
 
   files-ascend : FilesIn 0 (schemaOf xs .files)
   unfolding schemaOf
   files-ascend =
-      let e : between filesAt schemaSize xs ≡ drop filesAt xs = take-all 128 (drop filesAt xs) (rw (length-drop filesAt xs) (omega (arith, table-size))) in
+      let e : between filesAt schemaSize xs ≡ drop filesAt xs = take-all 128 (drop filesAt xs) (rw (length-drop filesAt xs) (omega (arith, schema-length))) in
       subst (λ (l : List ℕ). FilesIn 0 (rowsOf 2 (getD xs 3 0) cellsFile l)) (e ∙ sym (files-place xs))
       (files-in (getD xs 3 0) 0 (between filesAt schemaSize xs) (file-rows (getD xs 3 0) (between filesAt schemaSize xs) (tested 8)))
 
@@ -305,7 +304,7 @@ module _ (xs : List ℕ) (h : isSchemaTable xs ≡ true) where
       ∷ (take 384 (drop 4 xs) ++ (take 768 (drop 388 xs) ++ (take 4608 (drop 1156 xs) ++ take 128 (drop 5764 xs)))) =
       λ i. a i ∷ b i ∷ c i ∷ d i ∷ (p i ++ (q i ++ (r i ++ s i)))
       in
-      sym (t ∙ areas-of xs table-size)
+      sym (t ∙ areas-of xs schema-length)
 
   sized : SizedSchema (schemaOf xs)
   sized =
@@ -318,14 +317,10 @@ module _ (xs : List ℕ) (h : isSchemaTable xs ≡ true) where
         rowPaths = rows-each RowFits (λ r e p. length-front (getD r 1 0 ∷ getD r 2 0 ∷ getD r 3 0 ∷ getD r 4 0 ∷ []));
       }
 
-  -- the number of types stands in the first cell
-  pub tested-types : getD xs 0 0 ≡ length (schemaOf xs .types)
-  tested-types = sym type-length
-
 pub tested-schema : (xs : List ℕ) → isSchemaTable xs ≡ true → TestedSchema xs
 tested-schema xs h =
     record {
-      good = record { size = table-size xs h; raw = raw xs h; sized = sized xs h };
+      good = record { size = schema-length xs h; raw = raw xs h; sized = sized xs h };
       types = types-each xs h;
       groups = groups-each xs h GroupIn group-in;
       rows = rows-each xs h RowIn row-in;

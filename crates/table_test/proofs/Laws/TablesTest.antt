@@ -1,5 +1,5 @@
 -- The test of the four tables together: the loops over owners and items, and what tables that pass are. Assumes nothing.
-use mathlib.Core.Bool.{Bool, true, false, _&&_}
+use mathlib.Core.Bool.{Bool, true, false, _&&_, and-eq-true-iff}
 use mathlib.Core.List.{List, [], _∷_}
 use mathlib.Core.Path.{_≡_, sym, ap, _∙_, subst}
 use Prim.Native.Nat.{ℕ, zero, suc, _+_, _≤_, _<_}
@@ -9,26 +9,26 @@ use native.Mathlib.Omega.{arith}
 use borrow.Author.Tests.{eqb-true}
 use lib.ListN.{length, getD, drop, drop-of-length-le}
 use lib.Seq.{drop-cons}
-use Rattle.tables.specs.Limits.{elementLimit, itemLimit, depthLimit}
+use Rattle.tables.specs.Limits.{depthLimit}
 use Rattle.tables.specs.Lists.{allOf}
 use Rattle.tables.specs.Records.{Item, child, listOf}
 use Rattle.tables.specs.ModelTable.{countOf, modelOf, ItemBelow, modelSize}
-use Rattle.tables.specs.ElementsTable.{elementsOf, elementsSize}
-use Rattle.tables.specs.SchemaTable.{schemaSize}
+use Rattle.tables.specs.ElementsTable.{elementsOf}
 use Rattle.table_test.specs.ModelTest.{isModelTable, TestedModel}
 use Rattle.table_test.specs.LogTest.{TestedLog}
 use Rattle.table_test.specs.ElementsTest.{isElementsTable, TestedElements}
 use Rattle.table_test.specs.SchemaTest.{isSchemaTable}
 use Rattle.table_test.specs.TablesTest.{itemDeeper, listsDeeper, tablesTests, tablesPass, Joined, TestedTables}
 use Rattle.tables.proofs.Laws.Cells.{each-getD}
+use Rattle.tables.proofs.Laws.ElementsTable.{element-count, text-count}
+use Rattle.tables.proofs.Laws.SchemaTable.{type-count}
 use Rattle.table_test.proofs.Laws.Scans.{all-more, all-stop}
 use Rattle.tables.proofs.Laws.ModelTable.{read-count, item-below, listed-below}
 use Rattle.table_test.proofs.Laws.ModelTest as modelTest
-use Rattle.table_test.proofs.Laws.ModelTest.{and-left, and-right}
 use Rattle.table_test.proofs.Laws.RowsTest.{every-at, all-at}
 use Rattle.table_test.proofs.Laws.LogTest.{tested-log}
-use Rattle.table_test.proofs.Laws.ElementsTest.{tested-elements, tested-count, tested-texts}
-use Rattle.table_test.proofs.Laws.SchemaTest.{tested-schema, tested-types}
+use Rattle.table_test.proofs.Laws.ElementsTest.{few-elements, few-texts, tested-elements}
+use Rattle.table_test.proofs.Laws.SchemaTest.{tested-schema}
 
 -- ---- the items of one owner o, whose depth is d
 
@@ -88,10 +88,10 @@ lists-at : (ds : List ℕ) (e : ℕ) (ls : List (List Item)) (k : ℕ) → lists
 unfolding listsDeeper
 lists-at ds e [] k h l = absurd (not-suc-le-zero l)
 lists-at ds e (x ∷ ls) zero h l =
-    rw (add-zero e) (and-left (allOf (itemDeeper ds (getD ds e 0)) x) (listsDeeper ds (e + 1) ls) h)
+    rw (add-zero e) (and-eq-true-iff (allOf (itemDeeper ds (getD ds e 0)) x) (listsDeeper ds (e + 1) ls) .0 h .0)
 lists-at ds e (x ∷ ls) (suc k) h l =
     let z : e + 1 + k ≡ e + suc k = omega arith in
-    rw z at (lists-at ds (e + 1) ls k (and-right (allOf (itemDeeper ds (getD ds e 0)) x) (listsDeeper ds (e + 1) ls) h) (le-of-suc-le-suc l))
+    rw z at (lists-at ds (e + 1) ls k (and-eq-true-iff (allOf (itemDeeper ds (getD ds e 0)) x) (listsDeeper ds (e + 1) ls) .0 h .1) (le-of-suc-le-suc l))
 
 child-deeper : (ds : List ℕ) (d x : ℕ) (a : Item) → a ≡ child x → itemDeeper ds d a ≡ true → getD ds x 0 ≡ d + 1
 unfolding itemDeeper
@@ -99,39 +99,22 @@ child-deeper ds d x a e h = eqb-true (getD ds x 0) (d + 1) (rw e at h)
 
 -- ---- tables that pass
 
-pub schema-length : (schema : List ℕ) → isSchemaTable schema ≡ true → length schema ≡ schemaSize
-schema-length schema h = tested-schema schema h .good .size
+module _ (types size : ℕ) (elements : List ℕ) (h : isElementsTable types size elements ≡ true) (model : List ℕ) (g : isModelTable (getD elements 1 0) model ≡ true) where
+  pub model-length : length model ≡ modelSize
+  model-length = modelTest.tested (getD elements 1 0) model (few-texts types size elements h) g .good .size
 
-module _ (types size : ℕ) (elements : List ℕ) (h : isElementsTable types size elements ≡ true) where
-  pub elements-length : length elements ≡ elementsSize
-  elements-length = tested-elements types size elements h .good .size
+  same-count : getD model 0 0 ≡ getD elements 0 0 → countOf (modelOf model) ≡ length (elementsOf elements .names)
+  same-count e =
+      sym (read-count model (modelTest.tested (getD elements 1 0) model (few-texts types size elements h) g .good)) ∙ e ∙ element-count elements (tested-elements types size elements h .good)
 
-  pub few-texts : getD elements 1 0 ≤ itemLimit
-  few-texts =
-      let t = tested-elements types size elements h .good .sized .textCount in
-      rw (← tested-texts types size elements h) at t
-
-  few-elements : getD elements 0 0 ≤ elementLimit
-  few-elements =
-      let t = tested-elements types size elements h .good .sized .count in
-      rw (← tested-count types size elements h) at t
-
-  module _ (model : List ℕ) (g : isModelTable (getD elements 1 0) model ≡ true) where
-    pub model-length : length model ≡ modelSize
-    model-length = modelTest.tested (getD elements 1 0) model few-texts g .good .size
-
-    same-count : getD model 0 0 ≡ getD elements 0 0 → countOf (modelOf model) ≡ length (elementsOf elements .names)
-    same-count e =
-        sym (read-count model (modelTest.tested (getD elements 1 0) model few-texts g .good)) ∙ e ∙ tested-count types size elements h
-
-    pub joined : getD model 0 0 ≡ getD elements 0 0 → Joined elements model
-    joined e =
-        record {
-          elementsGood = tested-elements types size elements h .good;
-          modelGood = modelTest.tested (getD elements 1 0) model few-texts g .good;
-          same = same-count e;
-          low = tested-elements types size elements h .depths;
-        }
+  pub joined : getD model 0 0 ≡ getD elements 0 0 → Joined elements model
+  joined e =
+      record {
+        elementsGood = tested-elements types size elements h .good;
+        modelGood = modelTest.tested (getD elements 1 0) model (few-texts types size elements h) g .good;
+        same = same-count e;
+        low = tested-elements types size elements h .depths;
+      }
 
 pub tested-tables : (size : ℕ) (schema elements model log : List ℕ) → tablesPass size schema elements model log ≡ true → TestedTables size schema elements model log
 unfolding tablesPass
@@ -142,13 +125,14 @@ tested-tables size schema elements model log h =
     let e : isElementsTable types size elements ≡ true = t 1 in
     let m : isModelTable (getD elements 1 0) model ≡ true = t 2 in
     let c : getD model 0 0 ≡ getD elements 0 0 = eqb-true (getD model 0 0) (getD elements 0 0) (t 4) in
+    let et = tested-elements types size elements e in
     let mt : TestedModel (getD elements 1 0) model = modelTest.tested (getD elements 1 0) model (few-texts types size elements e) m in
     let ds : List ℕ = elementsOf elements .depths in
     record {
       schemaTested = tested-schema schema s;
-      elementsTested = subst (λ (k : ℕ). TestedElements k size elements) (tested-types schema s) (tested-elements types size elements e);
-      modelTested = subst (λ (k : ℕ). TestedModel k model) (tested-texts types size elements e) mt;
-      logTested = subst (λ (k : ℕ). TestedLog k log) (tested-count types size elements e) (tested-log (getD elements 0 0) log (few-elements types size elements e) (t 3));
+      elementsTested = subst (λ (k : ℕ). TestedElements k size elements) (type-count schema (tested-schema schema s .good)) et;
+      modelTested = subst (λ (k : ℕ). TestedModel k model) (text-count elements (et .good)) mt;
+      logTested = subst (λ (k : ℕ). TestedLog k log) (element-count elements (et .good)) (tested-log (getD elements 0 0) log (few-elements types size elements e) (t 3));
       same = same-count types size elements e model m c;
       deeper = λ o i x l f.
           let k : o < length (modelOf model .lists) = rw (mt .good .sized .lists) (listed-below model (mt .good) o i l) in

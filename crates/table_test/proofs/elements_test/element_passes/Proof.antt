@@ -1,4 +1,4 @@
--- `tables::elements_test::element_passes` meets its contract. Assumes nothing.
+-- `table_test::elements_test::element_passes` meets its contract. Assumes nothing.
 use Rattle.table_test.specs.ElementsTest.{elementPasses}
 use lib.ListN.{getD}
 use borrow.Author.Tests.{le-leb, lt-leb, le-ltb, lt-ltb}

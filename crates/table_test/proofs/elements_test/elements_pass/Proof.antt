@@ -1,4 +1,4 @@
--- `tables::elements_test::elements_pass` meets its contract. Assumes nothing.
+-- `table_test::elements_test::elements_pass` meets its contract. Assumes nothing.
 use Rattle.table_test.proofs.Laws.RowsTest.{rows-more, rows-stop, rows-end}
 use Rattle.table_test.specs.RowsTest.{rowsIn}
 use Rattle.table_test.specs.ElementsTest.{elementPasses}

@@ -1,4 +1,4 @@
--- `tables::elements_test::is_elements_table` meets its contract. Assumes nothing.
+-- `table_test::elements_test::is_elements_table` meets its contract. Assumes nothing.
 use Rattle.table_test.specs.ElementsTest.{isElementsTable}
 use lib.ListN.{length, getD}
 use borrow.Author.Tests.{eq-eqb, ne-eqb, le-leb, lt-leb, not-true, not-false}

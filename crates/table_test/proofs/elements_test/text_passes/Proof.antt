@@ -1,4 +1,4 @@
--- `tables::elements_test::text_passes` meets its contract. Assumes nothing.
+-- `table_test::elements_test::text_passes` meets its contract. Assumes nothing.
 use Rattle.table_test.specs.ElementsTest.{textPasses}
 use lib.ListN.{getD}
 use borrow.Author.Tests.{eq-eqb, ne-eqb, le-leb, lt-leb}

@@ -1,4 +1,4 @@
--- `tables::elements_test::tree_passes` meets its contract. Assumes nothing.
+-- `table_test::elements_test::tree_passes` meets its contract. Assumes nothing.
 use Rattle.table_test.specs.ElementsTest.{treePasses}
 use lib.ListN.{getD}
 use borrow.Author.Tests.{le-ltb, lt-ltb}

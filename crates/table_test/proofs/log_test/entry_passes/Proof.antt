@@ -1,4 +1,4 @@
--- `tables::log_test::entry_passes` meets its contract. Assumes nothing.
+-- `table_test::log_test::entry_passes` meets its contract. Assumes nothing.
 use Rattle.table_test.specs.LogTest.{entryPasses}
 use lib.ListN.{getD}
 use borrow.Author.Tests.{eq-eqb, ne-eqb, le-leb, lt-leb, le-ltb, lt-ltb}

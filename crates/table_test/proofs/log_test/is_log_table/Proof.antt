@@ -1,4 +1,4 @@
--- `tables::log_test::is_log_table` meets its contract. Assumes nothing.
+-- `table_test::log_test::is_log_table` meets its contract. Assumes nothing.
 use Rattle.table_test.specs.LogTest.{isLogTable}
 use lib.ListN.{length, getD}
 use borrow.Author.Tests.{eq-eqb, ne-eqb, le-leb, lt-leb, not-true, not-false}

@@ -1,4 +1,4 @@
--- `tables::model_test::cells_in_range` meets its contract. Assumes nothing.
+-- `table_test::model_test::cells_in_range` meets its contract. Assumes nothing.
 use mathlib.Core.Path.{_≡_, refl, sym, _∙_}
 use Prim.Native.Nat.{_-_}
 use borrow.Author.Needs.{needs}

@@ -1,4 +1,4 @@
--- `tables::model_test::is_model_table` meets its contract. Assumes nothing.
+-- `table_test::model_test::is_model_table` meets its contract. Assumes nothing.
 use mathlib.Core.Bool.{true}
 use mathlib.Core.Path.{_≡_, sym, _∙_}
 use borrow.Author.Needs.{needs}

@@ -1,4 +1,4 @@
--- `tables::model_test::lists_once` meets its contract. Assumes nothing.
+-- `table_test::model_test::lists_once` meets its contract. Assumes nothing.
 use mathlib.Core.Path.{_≡_, sym, _∙_}
 use Prim.Native.Nat.{_-_, _<_}
 use native.Mathlib.Omega.{arith}

@@ -1,4 +1,4 @@
--- `tables::model_test::once` meets its contract. Assumes nothing.
+-- `table_test::model_test::once` meets its contract. Assumes nothing.
 use mathlib.Core.Path.{_≡_, sym, _∙_}
 use native.Mathlib.Omega.{arith}
 use borrow.Author.Needs.{needs}

@@ -1,4 +1,4 @@
--- `tables::model_test::shape` meets its contract. Assumes nothing.
+-- `table_test::model_test::shape` meets its contract. Assumes nothing.
 use mathlib.Core.Path.{_∙_}
 use borrow.Author.Needs.{needs}
 use borrow.Author.Tests.{eq-eqb, ne-eqb, le-leb, lt-leb}

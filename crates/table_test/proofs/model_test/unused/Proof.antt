@@ -1,4 +1,4 @@
--- `tables::model_test::unused` meets its contract. Assumes nothing.
+-- `table_test::model_test::unused` meets its contract. Assumes nothing.
 use mathlib.Core.Path.{sym, _∙_}
 use borrow.Author.Needs.{needs}
 use borrow.Author.Tests.{not-true, not-false}

@@ -1,4 +1,4 @@
--- `tables::scan::all_at_most` meets its contract. Assumes nothing.
+-- `table_test::scan::all_at_most` meets its contract. Assumes nothing.
 use mathlib.Core.Path.{_≡_, refl, sym, _∙_}
 use Prim.Native.Nat.{_-_}
 use borrow.Author.Needs.{needs}

@@ -1,4 +1,4 @@
--- `tables::schema_test::files_pass` meets its contract. Assumes nothing.
+-- `table_test::schema_test::files_pass` meets its contract. Assumes nothing.
 use Rattle.table_test.proofs.Laws.SchemaTest.{file-stop, file-more, file-end}
 use Rattle.table_test.specs.RowsTest.{rowsIn}
 use Rattle.table_test.specs.SchemaTest.{filesPass}

@@ -1,4 +1,4 @@
--- `tables::schema_test::group_passes` meets its contract. Assumes nothing.
+-- `table_test::schema_test::group_passes` meets its contract. Assumes nothing.
 use Rattle.table_test.specs.SchemaTest.{groupPasses}
 use lib.ListN.{getD}
 use borrow.Author.Tests.{eq-eqb, ne-eqb, le-leb, lt-leb, le-ltb, lt-ltb, not-true, not-false}

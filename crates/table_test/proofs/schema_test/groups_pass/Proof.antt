@@ -1,4 +1,4 @@
--- `tables::schema_test::groups_pass` meets its contract. Assumes nothing.
+-- `table_test::schema_test::groups_pass` meets its contract. Assumes nothing.
 use Rattle.table_test.proofs.Laws.RowsTest.{rows-more, rows-stop, rows-end}
 use Rattle.table_test.specs.RowsTest.{rowsIn}
 use Rattle.table_test.specs.SchemaTest.{groupPasses}

@@ -1,4 +1,4 @@
--- `tables::schema_test::is_schema_table` meets its contract. Assumes nothing.
+-- `table_test::schema_test::is_schema_table` meets its contract. Assumes nothing.
 use Rattle.table_test.specs.SchemaTest.{isSchemaTable}
 use lib.ListN.{length, getD}
 use borrow.Author.Tests.{eq-eqb, ne-eqb, le-leb, lt-leb, not-true, not-false}

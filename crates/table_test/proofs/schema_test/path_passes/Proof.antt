@@ -1,4 +1,4 @@
--- `tables::schema_test::path_passes` meets its contract. Assumes nothing.
+-- `table_test::schema_test::path_passes` meets its contract. Assumes nothing.
 use Rattle.table_test.specs.SchemaTest.{pathPasses}
 use borrow.Author.Tests.{eq-eqb, ne-eqb, le-leb, lt-leb, le-ltb, lt-ltb}
 use native.Mathlib.Omega.{arith}

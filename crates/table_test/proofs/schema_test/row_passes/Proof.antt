@@ -1,4 +1,4 @@
--- `tables::schema_test::row_passes` meets its contract. Assumes nothing.
+-- `table_test::schema_test::row_passes` meets its contract. Assumes nothing.
 use Rattle.table_test.specs.SchemaTest.{rowPasses}
 use lib.ListN.{getD}
 use borrow.Author.Tests.{le-leb, lt-leb, le-ltb, lt-ltb, not-true, not-false}

@@ -1,4 +1,4 @@
--- `tables::schema_test::type_passes` meets its contract. Assumes nothing.
+-- `table_test::schema_test::type_passes` meets its contract. Assumes nothing.
 use Rattle.table_test.specs.SchemaTest.{typePasses}
 use lib.ListN.{getD}
 use borrow.Author.Tests.{le-leb, lt-leb, le-ltb, lt-ltb}

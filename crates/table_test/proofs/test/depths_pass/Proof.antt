@@ -1,4 +1,4 @@
--- `tables::test::depths_pass` meets its contract. Assumes nothing.
+-- `table_test::test::depths_pass` meets its contract. Assumes nothing.
 use Rattle.table_test.proofs.Laws.TablesTest.{owner-stop, owner-more, owner-end, joined-lists}
 use Rattle.tables.specs.ElementsTable.{elementsOf}
 use Rattle.tables.specs.ModelTable.{modelOf}

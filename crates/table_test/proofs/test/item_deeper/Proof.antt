@@ -1,4 +1,4 @@
--- `tables::test::item_deeper` meets its contract. Assumes nothing.
+-- `table_test::test::item_deeper` meets its contract. Assumes nothing.
 use Rattle.table_test.specs.TablesTest.{itemDeeper}
 use borrow.Author.Needs.{needs}
 use Rattle.table_test.proofs.test.item_deeper.Statement.{statement}

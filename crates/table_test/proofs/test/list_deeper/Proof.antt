@@ -1,4 +1,4 @@
--- `tables::test::list_deeper` meets its contract. Assumes nothing.
+-- `table_test::test::list_deeper` meets its contract. Assumes nothing.
 use Rattle.table_test.proofs.Laws.TablesTest.{item-stop, item-more, joined-item, joined-depth}
 use Rattle.table_test.proofs.Laws.Scans.{all-end}
 use Rattle.tables.specs.Lists.{allOf}

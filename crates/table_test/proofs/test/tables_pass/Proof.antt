@@ -1,5 +1,7 @@
--- `tables::test::tables_pass` meets its contract. Assumes nothing.
-use Rattle.table_test.proofs.Laws.TablesTest.{schema-length, elements-length, few-texts, model-length, joined}
+-- `table_test::test::tables_pass` meets its contract. Assumes nothing.
+use Rattle.table_test.proofs.Laws.ElementsTest.{elements-length, few-texts}
+use Rattle.table_test.proofs.Laws.SchemaTest.{schema-length}
+use Rattle.table_test.proofs.Laws.TablesTest.{model-length, joined}
 use Rattle.table_test.specs.TablesTest.{tablesPass}
 use lib.ListN.{length, getD}
 use borrow.Author.Tests.{eq-eqb, ne-eqb, not-true, not-false}

@@ -1,6 +1,8 @@
 -- `FileSet::without` meets its contract. Assumes nothing.
-use mathlib.Core.Path.{sym}
+use mathlib.Core.Path.{sym, ap, _∙_}
+use Prim.Native.Nat.{ℕ}
 use borrow.Author.Needs.{needs}
+use lib.Bits.{bitAnd, bitXor}
 use Rattle.tables.proofs.Laws.FileSets.{xor-withoutFile, one-shifted, absent-past, withoutFile-absent}
 use Rattle.tables.proofs.file_set.FileSet.without.Statement.{statement}
 use Rattle.tables.proofs.file_set.FileSet.without.Tie as tie
@@ -9,7 +11,10 @@ shl-t7 : tie.Need-shl-t7
 shl-t7 c = search needs
 
 returns : tie.Need-returns
-returns c = rw (one-shifted (c .before .args .f .0) (search needs)) (xor-withoutFile (c .before .args .self .0) (c .before .args .f .0))
+returns c =
+    let s = c .before .args .self .0 in
+    let v = c .before .args .f .0 in
+    ap (λ (bit : ℕ). bitXor s (bitAnd s bit)) (one-shifted v (search needs)) ∙ xor-withoutFile s v
 
 returns-2 : tie.Need-returns-2
 returns-2 c = sym (withoutFile-absent (c .before .args .self .0) (c .before .args .f .0) (absent-past 64 (c .before .args .self .0) (c .before .args .f .0) (search needs) (c .if1 .left)))
