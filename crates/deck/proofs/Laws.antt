@@ -3,3 +3,4 @@ pub mod Parts
 pub mod PathFields
 pub mod Texts
 pub mod Lines
+pub mod Load

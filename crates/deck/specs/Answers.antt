@@ -8,7 +8,7 @@ use lib.Dec.{eqb}
 use lib.ListN.{length, getD, take, drop}
 use Rattle.tables.specs.declared.path.Path.{Path}
 use Rattle.tables.specs.Paths.{cellsOf, partsOf, pathCells}
-use Rattle.tables.specs.Records.{SchemaPath, characters, any, Text}
+use Rattle.tables.specs.Records.{SchemaPath, characters, any, TypeRow, Group, SubElement, File, Text}
 use Rattle.tables.specs.Texts.{textFrom}
 use Rattle.deck.specs.Deck.{Part, Line, modes, mults}
 use Rattle.deck.specs.declared.fields.Num.{Num}
@@ -19,6 +19,10 @@ use Rattle.deck.specs.declared.fields.TextField.{TextField}
 use Rattle.deck.specs.declared.fields.TextField.the-variants.{Text as TextCells, Bad as BadText}
 use Rattle.deck.specs.declared.lines.Fields.{Fields}
 use Rattle.deck.specs.declared.lines.Span.{Span}
+use Rattle.deck.specs.declared.lines.TypeCells.{TypeCells}
+use Rattle.deck.specs.declared.lines.GroupCells.{GroupCells}
+use Rattle.deck.specs.declared.lines.RowCells.{RowCells}
+use Rattle.deck.specs.declared.lines.FileCells.{FileCells}
 use Rattle.deck.specs.declared.lines.Line as program
 use Rattle.deck.specs.declared.lines.Line.the-variants.{T, G, S, F, M, B, E, C, Bad}
 
@@ -117,21 +121,31 @@ pub record TextReads (r : TextField) (o : Option Text) : Type 0 where
 
 -- ---- lines
 
-unfoldable pub lineIs : program.Line → Option Line
-lineIs (T c) = some (Line.T (c .ty .0) (record { mode = getD modes (c .mode) characters; named = eqb (c .named) 1; split = c .split }))
-lineIs (G c) = some (Line.G (record { type = c .ty .0; path = partsOf (c .path); mode = getD modes (c .mode) characters }))
-lineIs (S c) =
-    some
-    (Line.S
-    (record {
+abbrev pub typeIs : TypeCells → TypeRow
+typeIs c = record { mode = getD modes (c .mode) characters; named = eqb (c .named) 1; split = c .split }
+
+abbrev pub groupIs : GroupCells → Group
+groupIs c = record { type = c .ty .0; path = partsOf (c .path); mode = getD modes (c .mode) characters }
+
+abbrev pub rowIs : RowCells → SubElement
+rowIs c =
+    record {
       type = c .ty .0;
       path = partsOf (c .path);
       name = c .name .0;
       childType = c .child .0;
       mult = getD mults (c .mult) any;
       mask = c .mask;
-    }))
-lineIs (F c) = some (Line.F (record { file = c .file .0; version = c .version }))
+    }
+
+abbrev pub fileIs : FileCells → File
+fileIs c = record { file = c .file .0; version = c .version }
+
+unfoldable pub lineIs : program.Line → Option Line
+lineIs (T c) = some (Line.T (c .ty .0) (typeIs c))
+lineIs (G c) = some (Line.G (groupIs c))
+lineIs (S c) = some (Line.S (rowIs c))
+lineIs (F c) = some (Line.F (fileIs c))
 lineIs M = some Line.M
 lineIs (B f) = some (Line.B (f .0))
 lineIs (E c) = some (Line.E (c .depth) (c .name .0) (c .set .0))

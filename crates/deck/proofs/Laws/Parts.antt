@@ -9,20 +9,11 @@ use native.Mathlib.Omega.{arith}
 use borrow.Author.Tests.{eq-eqb, ne-eqb}
 use lib.Dec.{eqb}
 use lib.ListN.{length, getD, take, drop, length-take, length-drop}
-use lib.Seq.{drop-cons, drop-drop, take-take, take-all, take-nil, drop-nil, length-take-le}
+use lib.Seq.{drop-cons, drop-drop, take-take, take-all, take-nil}
 use Rattle.deck.specs.Deck.{Part, ahead, parts}
 use Rattle.deck.specs.Answers.{between, partAt, reach, Next}
 
 -- ---- parts of any bytes
-
-pub reach-le : (separator : ℕ) (xs : List ℕ) → reach separator xs ≤ length xs
-unfolding reach
-reach-le separator [] = omega arith
-reach-le separator (b ∷ bs) = go (eqb b separator) (reach-le separator bs)
-  where
-    go : (t : Bool) → reach separator bs ≤ length bs → elim t [ true ↦ 0 | false ↦ suc (reach separator bs) ] ≤ suc (length bs)
-    go true h = omega arith
-    go false h = omega arith
 
 -- up to the first separator, and then the parts behind it
 pub parts-next : (separator at : ℕ) (xs : List ℕ) → reach separator xs < length xs

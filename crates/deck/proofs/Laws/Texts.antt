@@ -1,32 +1,30 @@
 -- Text fields: a string's bytes, and a kind's letter. Assumes nothing.
 use mathlib.Core.Bool.{Bool, true, false}
-use mathlib.Core.List.{List, [], _∷_}
-use mathlib.Core.Option.{Option, none, some, bind}
-use mathlib.Core.Path.{_≡_, refl, sym, _∙_, ap}
-use Prim.Native.Nat.{ℕ, zero, suc, _+_, _-_, _*_, _/_, _%_, _^_, _≤_, _<_}
+use mathlib.Core.List.{List}
+use mathlib.Core.Option.{none, some, bind}
+use mathlib.Core.Path.{_≡_, refl, sym}
+use Prim.Native.Nat.{ℕ, _+_, _-_, _*_, _/_, _%_, _≤_, _<_}
 use native.Mathlib.Numerals.{add-one}
 use native.Mathlib.Omega.{arith}
 use borrow.Author.Tests.{le-leb, lt-leb, ne-eqb}
-use lib.Dec.{eqb}
 use lib.ListN.{length, getD, drop, drop-of-length-le}
 use lib.Seq.{drop-cons}
 use Rattle.tables.specs.Lists.{allOf, firstOf}
-use Rattle.tables.specs.Records.{Text, string}
 use Rattle.tables.specs.Texts.{textFrom}
 use Rattle.deck.specs.Deck.{Part, only, number, decimal, hexadecimal, printable, byLetter, texts, textE, textS, textU, textF}
 use Rattle.deck.specs.Answers.{whole, between, partAt}
 use Rattle.deck.proofs.Laws.Parts.{length-between}
 
--- ---- a test of every byte
+-- ---- a test of every entry: what is left gives the whole
 
-module _ (test : ℕ → Bool) (s : List ℕ) (i : ℕ) where
-  pub all-more : i < length s → test (getD s i 0) ≡ true → allOf test (drop i s) ≡ allOf test (drop (i + 1) s)
+module _ {A : Type 0} (test : A → Bool) (s : List A) (i : ℕ) where
+  pub all-more : (d : A) → i < length s → test (getD s i d) ≡ true → allOf test (drop i s) ≡ allOf test (drop (i + 1) s)
   unfolding allOf
-  all-more h e = rw (add-one i, drop-cons s i 0 h, allOf, e)
+  all-more d h e = rw (add-one i, drop-cons s i d h, allOf, e)
 
-  pub all-stop : i < length s → test (getD s i 0) ≡ false → allOf test (drop i s) ≡ false
+  pub all-stop : (d : A) → i < length s → test (getD s i d) ≡ false → allOf test (drop i s) ≡ false
   unfolding allOf
-  all-stop h e = rw (drop-cons s i 0 h, allOf, e)
+  all-stop d h e = rw (drop-cons s i d h, allOf, e)
 
   pub all-end : length s ≤ i → allOf test (drop i s) ≡ true
   unfolding allOf

@@ -28,10 +28,10 @@ wide-requires : tie.Need-wide-requires Inv-loop μ-loop
 wide-requires c κs = search needs
 
 returns : tie.Need-returns Inv-loop μ-loop
-returns c = sym (c .before .before .before .before .loop .inv ∙ all-stop printable (c .before .before .before .before .before .before .args .s .now) (c .before .before .before .before .loop .i) (omega arith) (printable-low (getD (c .before .before .before .before .before .before .args .s .now) (c .before .before .before .before .loop .i) 0) (omega arith)))
+returns c = sym (c .before .before .before .before .loop .inv ∙ all-stop printable (c .before .before .before .before .before .before .args .s .now) (c .before .before .before .before .loop .i) 0 (omega arith) (printable-low (getD (c .before .before .before .before .before .before .args .s .now) (c .before .before .before .before .loop .i) 0) (omega arith)))
 
 returns-2 : tie.Need-returns-2 Inv-loop μ-loop
-returns-2 c = sym (c .before .before .before .before .before .loop .inv ∙ all-stop printable (c .before .before .before .before .before .before .before .args .s .now) (c .before .before .before .before .before .loop .i) (omega arith) (printable-high (getD (c .before .before .before .before .before .before .before .args .s .now) (c .before .before .before .before .before .loop .i) 0) (omega arith)))
+returns-2 c = sym (c .before .before .before .before .before .loop .inv ∙ all-stop printable (c .before .before .before .before .before .before .before .args .s .now) (c .before .before .before .before .before .loop .i) 0 (omega arith) (printable-high (getD (c .before .before .before .before .before .before .before .args .s .now) (c .before .before .before .before .before .loop .i) 0) (omega arith)))
 
 add-i : tie.Need-add-i Inv-loop μ-loop
 add-i c = search needs
@@ -40,7 +40,7 @@ loop-less : tie.Need-loop-less Inv-loop μ-loop
 loop-less c = search needs
 
 loop-again : tie.Need-loop-again Inv-loop μ-loop
-loop-again c = c .before .before .before .before .before .loop .inv ∙ all-more printable (c .before .before .before .before .before .before .before .args .s .now) (c .before .before .before .before .before .loop .i) (omega arith) (printable-is (getD (c .before .before .before .before .before .before .before .args .s .now) (c .before .before .before .before .before .loop .i) 0) (omega arith) (omega arith))
+loop-again c = c .before .before .before .before .before .loop .inv ∙ all-more printable (c .before .before .before .before .before .before .before .args .s .now) (c .before .before .before .before .before .loop .i) 0 (omega arith) (printable-is (getD (c .before .before .before .before .before .before .before .args .s .now) (c .before .before .before .before .before .loop .i) 0) (omega arith) (omega arith))
 
 returns-3 : tie.Need-returns-3 Inv-loop μ-loop
 returns-3 c = sym (c .before .loop .inv ∙ all-end printable (c .before .before .before .args .s .now) (c .before .loop .i) (omega arith))

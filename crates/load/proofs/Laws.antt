@@ -1,0 +1,12 @@
+pub mod Taken
+pub mod Results
+pub mod Steps
+pub mod SchemaLines
+pub mod Above
+pub mod Trees
+pub mod Elements
+pub mod TextItems
+pub mod Dispatch
+pub mod Reading
+pub mod Empty
+pub mod Call

@@ -1,0 +1,228 @@
+-- T, G, S and F lines: the tests in their order, and what each line keeps. Assumes nothing.
+use mathlib.Core.Bool.{Bool, true, false, false≢true}
+use mathlib.Core.List.{List, [], _∷_, _++_}
+use mathlib.Core.Path.{_≡_, refl, sym, ap, _∙_}
+use Prim.Native.Nat.{ℕ, _+_, _≤_, _<_}
+use native.Mathlib.Omega.{arith}
+use borrow.Author.Tests.{ltb-true, lt-ltb, le-ltb, le-leb, lt-leb, eq-eqb, ne-eqb}
+use lib.Dec.{eqb, ltb}
+use lib.ListN.{length, getD, drop, length-append}
+use Rattle.tables.specs.Limits.{typeLimit, groupLimit, rowLimit, fileLimit}
+use Rattle.tables.specs.Lists.{anyOf, allOf}
+use Rattle.tables.specs.Records.{TypeNumber, TypeRow, Group, SubElement, File, Schema, addType, addGroup, addSubElement, addFile}
+use Rattle.tables.specs.SchemaTable.{noFile, schemaOf, HoldsSchema}
+use Rattle.tables.proofs.Laws.Cells.{each-append, each-imp}
+use Rattle.deck.specs.Load.{Loading, Res, ok, refused, form, schemaRule, limit, kindT, kindG, kindS, kindF, need, _>>=_, putSchema, loadT, loadG, loadS, loadF}
+use Rattle.deck.specs.Schema.{groupRule, subElementRule}
+use Rattle.deck.proofs.Laws.Texts.{all-more, all-stop, all-end}
+use Rattle.schema_calls.specs.Calls.{groupsAbove, rowsAbove}
+use Rattle.schema_calls.proofs.Laws.Schemas.{groups-all, rowsAbove-all}
+use Rattle.load.specs.Lines.{loadingOf, LoadingFits, GoodLoading, Steps}
+use Rattle.load.specs.declared.progress.Progress.{Progress}
+use Rattle.load.specs.declared.progress.Step.{Step}
+use Rattle.load.specs.declared.progress.Verdict.the-variants.{Taken}
+use Rattle.load.proofs.Laws.Steps.{line-taken}
+use Rattle.load.proofs.Laws.Taken.{taken-more}
+
+-- ---- T
+
+module _ (l : Loading) (t : TypeNumber) (row : TypeRow) where
+  pub t-late : kindT < l .latest → loadT l t row ≡ refused form
+  unfolding loadT need _>>=_
+  t-late h = rw (lt-leb (l .latest) kindT h)
+
+  pub t-order : l .latest ≤ kindT → (t ≡ length (l .schema .types) → ⊥) → loadT l t row ≡ refused form
+  unfolding loadT need _>>=_
+  t-order h n = rw (le-leb (l .latest) kindT h, ne-eqb t (length (l .schema .types)) n)
+
+  pub t-limit : l .latest ≤ kindT → t ≡ length (l .schema .types) → typeLimit ≤ t → loadT l t row ≡ refused limit
+  unfolding loadT need _>>=_
+  t-limit h e k = rw (le-leb (l .latest) kindT h, eq-eqb t (length (l .schema .types)) e, le-ltb t typeLimit k)
+
+  pub t-taken : l .latest ≤ kindT → t ≡ length (l .schema .types) → t < typeLimit
+      → loadT l t row ≡ ok (putSchema l kindT (addType (l .schema) row))
+  unfolding loadT need _>>=_
+  t-taken h e k = rw (le-leb (l .latest) kindT h, eq-eqb t (length (l .schema .types)) e, lt-ltb t typeLimit k)
+
+-- ---- G
+
+module _ (l : Loading) (g : Group) where
+  pub g-late : kindG < l .latest → loadG l g ≡ refused form
+  unfolding loadG need _>>=_
+  g-late h = rw (lt-leb (l .latest) kindG h)
+
+  pub g-limit : l .latest ≤ kindG → groupLimit ≤ length (l .schema .groups) → loadG l g ≡ refused limit
+  unfolding loadG need _>>=_
+  g-limit h k = rw (le-leb (l .latest) kindG h, le-ltb (length (l .schema .groups)) groupLimit k)
+
+  pub g-rule : l .latest ≤ kindG → length (l .schema .groups) < groupLimit → groupRule (l .schema) g ≡ false → loadG l g ≡ refused schemaRule
+  unfolding loadG need _>>=_
+  g-rule h k r = rw (le-leb (l .latest) kindG h, lt-ltb (length (l .schema .groups)) groupLimit k, r)
+
+  pub g-taken : l .latest ≤ kindG → length (l .schema .groups) < groupLimit → groupRule (l .schema) g ≡ true
+      → loadG l g ≡ ok (putSchema l kindG (addGroup (l .schema) g))
+  unfolding loadG need _>>=_
+  g-taken h k r = rw (le-leb (l .latest) kindG h, lt-ltb (length (l .schema .groups)) groupLimit k, r)
+
+-- where all groups stand above
+pub group-rule-is : (sc : Schema) (n : ℕ) (g : Group) (r b : Bool) → n ≡ length (sc .groups) → r ≡ groupRule (groupsAbove sc n) g → r ≡ b
+    → groupRule sc g ≡ b
+group-rule-is sc n g r b e h k = ap (λ (above : Schema). groupRule above g) (sym (groups-all sc n e)) ∙ sym h ∙ k
+
+-- ---- S
+
+module _ (l : Loading) (r : SubElement) where
+  pub s-late : kindS < l .latest → loadS l r ≡ refused form
+  unfolding loadS need _>>=_
+  s-late h = rw (lt-leb (l .latest) kindS h)
+
+  pub s-limit : l .latest ≤ kindS → rowLimit ≤ length (l .schema .subElements) → loadS l r ≡ refused limit
+  unfolding loadS need _>>=_
+  s-limit h k = rw (le-leb (l .latest) kindS h, le-ltb (length (l .schema .subElements)) rowLimit k)
+
+  pub s-rule : l .latest ≤ kindS → length (l .schema .subElements) < rowLimit → subElementRule (l .schema) r ≡ false
+      → loadS l r ≡ refused schemaRule
+  unfolding loadS need _>>=_
+  s-rule h k e = rw (le-leb (l .latest) kindS h, lt-ltb (length (l .schema .subElements)) rowLimit k, e)
+
+  pub s-taken : l .latest ≤ kindS → length (l .schema .subElements) < rowLimit → subElementRule (l .schema) r ≡ true
+      → loadS l r ≡ ok (putSchema l kindS (addSubElement (l .schema) r))
+  unfolding loadS need _>>=_
+  s-taken h k e = rw (le-leb (l .latest) kindS h, lt-ltb (length (l .schema .subElements)) rowLimit k, e)
+
+-- where all rows stand above
+pub row-rule-is : (sc : Schema) (n : ℕ) (a : SubElement) (r b : Bool) → n ≡ length (sc .subElements) → r ≡ subElementRule (rowsAbove sc n) a → r ≡ b
+    → subElementRule sc a ≡ b
+row-rule-is sc n a r b e h k = ap (λ (above : Schema). subElementRule above a) (sym (ap (rowsAbove sc) e ∙ rowsAbove-all sc)) ∙ sym h ∙ k
+
+-- ---- F
+
+module _ (l : Loading) (d : File) where
+  abbrev below : Bool
+  below = allOf (λ (above : File). ltb (above .file) (d .file)) (l .schema .files)
+
+  pub f-late : kindF < l .latest → loadF l d ≡ refused form
+  unfolding loadF need _>>=_
+  f-late h = rw (lt-leb (l .latest) kindF h)
+
+  pub f-order : l .latest ≤ kindF → below ≡ false → loadF l d ≡ refused form
+  unfolding loadF need _>>=_
+  f-order h e = rw (le-leb (l .latest) kindF h, e)
+
+  pub f-taken : l .latest ≤ kindF → below ≡ true → loadF l d ≡ ok (putSchema l kindF (addFile (l .schema) d))
+  unfolding loadF need _>>=_
+  f-taken h e = rw (le-leb (l .latest) kindF h, e)
+
+-- the search for a file that is not below: what is left gives the whole
+module _ (n : ℕ) (l : List File) (i : ℕ) where
+  abbrev test : File → Bool
+  test d = ltb (d .file) n
+
+  pub below-more : (f : ℕ) → i < length l → f ≡ getD l i noFile .file → f < n → allOf test (drop i l) ≡ allOf test l
+      → allOf test (drop (i + 1) l) ≡ allOf test l
+  below-more f h e k all = sym (all-more test l i noFile h (rw (← e) (lt-ltb f n k))) ∙ all
+
+  pub below-stop : (f : ℕ) → i < length l → f ≡ getD l i noFile .file → n ≤ f → allOf test (drop i l) ≡ allOf test l → false ≡ allOf test l
+  below-stop f h e k all = sym (all-stop test l i noFile h (rw (← e) (le-ltb f n k))) ∙ all
+
+  pub below-end : length l ≤ i → allOf test (drop i l) ≡ allOf test l → true ≡ allOf test l
+  below-end h all = sym (all-end test l i h) ∙ all
+
+-- a number above all others is new
+pub below-new : {A : Type 0} (number : A → ℕ) (n : ℕ) (l : List A) → allOf (λ (a : A). ltb (number a) n) l ≡ true
+    → anyOf (λ (a : A). eqb (number a) n) l ≡ false
+unfolding allOf anyOf
+below-new number n [] h = refl
+below-new {A = A} number n (x ∷ l) h = go (ltb (number x) n) refl h (below-new number n l)
+  where
+    go : (b : Bool) → ltb (number x) n ≡ b → _≡_ {A = Bool} (elim b [ true ↦ allOf (λ (a : A). ltb (number a) n) l | false ↦ false ]) true
+        → (allOf (λ (a : A). ltb (number a) n) l ≡ true → anyOf (λ (a : A). eqb (number a) n) l ≡ false)
+        → anyOf (λ (a : A). eqb (number a) n) (x ∷ l) ≡ false
+    go true e k rest = rw (ne-eqb (number x) n (λ z. omega (arith, ltb-true (number x) n e)), anyOf) (rest k)
+    go false e k rest = absurd (false≢true k)
+
+-- ---- what each line keeps
+
+module _ (l : Loading) (f : LoadingFits l) (kind : ℕ) where
+  pub fits-type : (row : TypeRow) → LoadingFits (putSchema l kind (addType (l .schema) row))
+  unfolding putSchema addType
+  fits-type row =
+      let more : length (l .schema .types) ≤ length (l .schema .types ++ (row ∷ [])) =
+      rw (length-append (l .schema .types) (row ∷ [])) (omega arith)
+      in
+      record {
+        same = f .same;
+        opened = f .opened;
+        known =
+            each-imp (λ (t : TypeNumber). t < length (l .schema .types)) (λ (t : TypeNumber). t < length (l .schema .types ++ (row ∷ []))) (l .elements .types)
+            (λ t h. omega arith) (f .known);
+        children =
+            each-imp (λ (r : SubElement). r .childType < length (l .schema .types)) (λ (r : SubElement). r .childType < length (l .schema .types ++ (row ∷ [])))
+            (l .schema .subElements) (λ r h. omega arith) (f .children);
+        texts = f .texts;
+        files = f .files;
+        oneLine = f .oneLine;
+        oneTree = f .oneTree;
+      }
+
+  pub fits-group : (g : Group) → LoadingFits (putSchema l kind (addGroup (l .schema) g))
+  unfolding putSchema addGroup
+  fits-group g =
+      record {
+        same = f .same;
+        opened = f .opened;
+        known = f .known;
+        children = f .children;
+        texts = f .texts;
+        files = f .files;
+        oneLine = f .oneLine;
+        oneTree = f .oneTree;
+      }
+
+  pub fits-row : (r : SubElement) → r .childType < length (l .schema .types) → LoadingFits (putSchema l kind (addSubElement (l .schema) r))
+  unfolding putSchema addSubElement
+  fits-row r h =
+      record {
+        same = f .same;
+        opened = f .opened;
+        known = f .known;
+        children = each-append (λ (a : SubElement). a .childType < length (l .schema .types)) (l .schema .subElements) (r ∷ []) (f .children) (h, tt);
+        texts = f .texts;
+        files = f .files;
+        oneLine = f .oneLine;
+        oneTree = f .oneTree;
+      }
+
+  pub fits-file : (d : File) → d .file < fileLimit → anyOf (λ (a : File). eqb (a .file) (d .file)) (l .schema .files) ≡ false
+      → LoadingFits (putSchema l kind (addFile (l .schema) d))
+  unfolding putSchema addFile
+  fits-file d h new =
+      record {
+        same = f .same;
+        opened = f .opened;
+        known = f .known;
+        children = f .children;
+        texts = f .texts;
+        files = each-append (λ (a : File). a .file < fileLimit) (l .schema .files) (d ∷ []) (f .files) (h, tt);
+        oneLine = taken-more (λ (a : File). a .file) fileLimit (l .schema .files) d h new (f .oneLine);
+        oneTree = f .oneTree;
+      }
+
+-- ---- the schema's table holds what the line adds
+
+abbrev afterKind : Progress → ℕ → Progress
+afterKind p kind = record { latest = kind; seen = p .seen; due = p .due; depth = p .depth; above = p .above }
+
+put-schema : (p : Progress) (kind : ℕ) (schema schema′ elements model : List ℕ) (sc : Schema) → schemaOf schema′ ≡ sc
+    → loadingOf (afterKind p kind) schema′ elements model ≡ putSchema (loadingOf p schema elements model) kind sc
+unfolding putSchema
+put-schema p kind schema schema′ elements model sc e = rw e
+
+pub step-schema : (p : Progress) (s : Step) (schema schema′ elements model : List ℕ) (o : Res Loading) (kind : ℕ) (sc : Schema)
+    → (s .verdict ≡ Taken) × (s .progress ≡ afterKind p kind) → GoodLoading p schema elements model → HoldsSchema schema′ sc
+    → LoadingFits (putSchema (loadingOf p schema elements model) kind sc) → o ≡ ok (putSchema (loadingOf p schema elements model) kind sc)
+    → Steps s schema′ elements model o
+step-schema p s schema schema′ elements model o kind sc told g h fits is =
+    line-taken s (afterKind p kind) schema′ elements model o (putSchema (loadingOf p schema elements model) kind sc) told
+    (put-schema p kind schema schema′ elements model sc (h .is))
+    (g .depth) (g .room) (h .good) (g .goodElements) (g .goodModel) fits is

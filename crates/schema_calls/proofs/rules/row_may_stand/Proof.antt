@@ -1,0 +1,45 @@
+-- `rules::row_may_stand` meets its contract. Assumes nothing.
+use borrow.Author.Tests.{not-true, not-false}
+use Rattle.tables.specs.Paths.{partsOf}
+use Rattle.tables.specs.SchemaTable.{schemaOf}
+use Rattle.schema_calls.proofs.Laws.Rules.{declared-below, stand-undeclared, stand-characters, stand-beginnings}
+use borrow.Author.Needs.{needs}
+use Rattle.schema_calls.proofs.rules.row_may_stand.Statement.{statement}
+use Rattle.schema_calls.proofs.rules.row_may_stand.Tie as tie
+
+type-declared-requires : tie.Need-type-declared-requires
+type-declared-requires c κs = search needs
+
+returns : tie.Need-returns
+returns c =
+    let s = c .before .before .before .args in
+    stand-undeclared (schemaOf (s .schema .now)) (s .above) (s .t .0) (partsOf (s .p)) (c .before .type-declared .ensures) (not-true (c .before .type-declared .result) (c .if1 .taken))
+
+type-mode-requires : tie.Need-type-mode-requires
+type-mode-requires c κs =
+    let s = c .before .before .before .args in
+    (search needs, declared-below (schemaOf (s .schema .now)) (s .above) (s .t .0) (partsOf (s .p)) (c .before .type-declared .ensures) (not-false (c .before .type-declared .result) (c .if1 .left)))
+
+returns-2 : tie.Need-returns-2
+returns-2 c =
+    let s = c .before .before .before .before .before .args in
+    stand-characters (schemaOf (s .schema .now)) (s .above) (s .t .0) (partsOf (s .p)) (c .before .before .before .type-declared .ensures) (not-false (c .before .before .before .type-declared .result) (c .before .before .if1 .left)) (c .before .type-mode .ensures) (c .if2 .taken)
+
+beginnings-stand-requires : tie.Need-beginnings-stand-requires
+beginnings-stand-requires c κs = search needs
+
+returns-3 : tie.Need-returns-3
+returns-3 c =
+    let s = c .before .before .before .before .before .before .args in
+    stand-beginnings (schemaOf (s .schema .now)) (s .above) (s .t .0) (partsOf (s .p)) (c .before .before .before .before .type-declared .ensures) (not-false (c .before .before .before .before .type-declared .result) (c .before .before .before .if1 .left)) (c .before .before .type-mode .ensures) (c .before .if2 .left) (c .beginnings-stand .ensures)
+
+pub row-may-stand-spec : {M : Type 1} → statement M
+row-may-stand-spec =
+    tie.close
+    (tie.spec
+    type-declared-requires
+    returns
+    type-mode-requires
+    returns-2
+    beginnings-stand-requires
+    returns-3)

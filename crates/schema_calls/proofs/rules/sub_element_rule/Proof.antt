@@ -1,0 +1,83 @@
+-- `rules::sub_element_rule` meets its contract. Assumes nothing.
+use borrow.Author.Tests.{not-true, not-false}
+use Rattle.tables.specs.SchemaTable.{schemaOf}
+use Rattle.schema_calls.specs.Calls.{rowOf}
+use Rattle.schema_calls.proofs.Laws.Rules.{sub-stands-not, sub-child-not, sub-meets, sub-begins}
+use borrow.Author.Needs.{needs}
+use Rattle.schema_calls.proofs.rules.sub_element_rule.Statement.{statement}
+use Rattle.schema_calls.proofs.rules.sub_element_rule.Tie as tie
+
+group-count-requires : tie.Need-group-count-requires
+group-count-requires c κs = search needs
+
+row-may-stand-requires : tie.Need-row-may-stand-requires
+row-may-stand-requires c κs = search needs
+
+returns : tie.Need-returns
+returns c =
+    let s = c .before .before .before .before .args in
+    let groups = c .before .before .group-count in
+    let stands = c .before .row-may-stand in
+    sub-stands-not (schemaOf (s .schema .now)) (s .above) (rowOf (s .c)) (groups .result) (groups .ensures) (stands .ensures)
+    (not-true (stands .result) (c .if1 .taken))
+
+type-declared-requires : tie.Need-type-declared-requires
+type-declared-requires c κs = search needs
+
+returns-2 : tie.Need-returns-2
+returns-2 c =
+    let s = c .before .before .before .before .before .before .args in
+    let groups = c .before .before .before .before .group-count in
+    let stands = c .before .before .before .row-may-stand in
+    let child = c .before .type-declared in
+    sub-child-not (schemaOf (s .schema .now)) (s .above) (rowOf (s .c)) (groups .result) (groups .ensures) (stands .ensures)
+    (not-false (stands .result) (c .before .before .if1 .left))
+    (child .ensures)
+    (not-true (child .result) (c .if2 .taken))
+
+rows-meet-any-requires : tie.Need-rows-meet-any-requires
+rows-meet-any-requires c κs = search needs
+
+returns-3 : tie.Need-returns-3
+returns-3 c =
+    let s = c .before .before .before .before .before .before .before .before .args in
+    let groups = c .before .before .before .before .before .before .group-count in
+    let stands = c .before .before .before .before .before .row-may-stand in
+    let child = c .before .before .before .type-declared in
+    sub-meets (schemaOf (s .schema .now)) (s .above) (rowOf (s .c)) (groups .result) (groups .ensures) (stands .ensures)
+    (not-false (stands .result) (c .before .before .before .before .if1 .left))
+    (child .ensures)
+    (not-false (child .result) (c .before .before .if2 .left))
+    (c .before .rows-meet-any .ensures)
+    (c .if3 .taken)
+
+begins-group-any-requires : tie.Need-begins-group-any-requires
+begins-group-any-requires c κs = search needs
+
+returns-4 : tie.Need-returns-4
+returns-4 c =
+    let s = c .before .before .before .before .before .before .before .before .before .args in
+    let groups = c .before .before .before .before .before .before .before .group-count in
+    let stands = c .before .before .before .before .before .before .row-may-stand in
+    let child = c .before .before .before .before .type-declared in
+    sub-begins (schemaOf (s .schema .now)) (s .above) (rowOf (s .c)) (groups .result) (groups .ensures) (stands .ensures)
+    (not-false (stands .result) (c .before .before .before .before .before .if1 .left))
+    (child .ensures)
+    (not-false (child .result) (c .before .before .before .if2 .left))
+    (c .before .before .rows-meet-any .ensures)
+    (c .before .if3 .left)
+    (c .begins-group-any .ensures)
+
+pub sub-element-rule-spec : {M : Type 1} → statement M
+sub-element-rule-spec =
+    tie.close
+    (tie.spec
+    group-count-requires
+    row-may-stand-requires
+    returns
+    type-declared-requires
+    returns-2
+    rows-meet-any-requires
+    returns-3
+    begins-group-any-requires
+    returns-4)

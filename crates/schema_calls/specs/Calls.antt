@@ -1,0 +1,66 @@
+-- What the answers of the schema calls stand for. Assumes nothing.
+use mathlib.Core.Bool.{Bool, true, false, _&&_}
+use mathlib.Core.List.{List}
+use mathlib.Core.Option.{Option, none, some}
+use mathlib.Core.Path.{_≡_}
+use Prim.Native.Nat.{ℕ, _<_, min}
+use lib.Dec.{eqb}
+use lib.ListN.{length, getD, take}
+use Rattle.tables.specs.FileSets.{holds}
+use Rattle.tables.specs.Paths.{samePath, partsOf}
+use Rattle.tables.specs.SchemaTable.{multFrom}
+use Rattle.tables.specs.Records.{Name, TypeNumber, FileNumber, FileSet, Version, Mask, SchemaPath, Group, SubElement, File, Schema}
+use Rattle.deck.specs.Schema.{meets}
+use Rattle.deck.specs.declared.lines.RowCells.{RowCells}
+use Rattle.schema_calls.specs.declared.calls.Found.{Found}
+use Rattle.schema_calls.specs.declared.calls.Found.the-variants.{At, Missing}
+
+-- the entry found
+unfoldable pub foundIn : {A : Type 0} → A → List A → Found → Option A
+foundIn default l (At i) = some (getD l i default)
+foundIn default l Missing = none
+
+abbrev pub FoundWithin : ℕ → Found → Type 0
+FoundWithin n (At i) = i < n
+FoundWithin n Missing = Unit {0}
+
+pub record Finds {A : Type 0} (default : A) (l : List A) (r : Found) (o : Option A) : Type 0 where
+  pub is : foundIn default l r ≡ o
+  pub within : FoundWithin (length l) r
+
+-- the S row that the program's cells stand for
+abbrev pub rowOf : RowCells → SubElement
+rowOf c =
+    record {
+      type = c .ty .0;
+      path = partsOf (c .path);
+      name = c .name .0;
+      childType = c .child .0;
+      mult = multFrom (c .mult);
+      mask = c .mask;
+    }
+
+-- ---- the test of one entry in each search
+
+abbrev pub rowIs : TypeNumber → Name → Mask → SubElement → Bool
+rowIs t n m r = eqb (r .type) t && eqb (r .name) n && meets (r .mask) m
+
+abbrev pub groupIs : TypeNumber → SchemaPath → Group → Bool
+groupIs t p g = eqb (g .type) t && samePath (g .path) p
+
+abbrev pub fileIs : FileNumber → File → Bool
+fileIs f d = eqb (d .file) f
+
+-- the smaller of a version and that of the file, if the set has the file
+abbrev pub leastWith : FileSet → FileNumber → Version → Version → Version
+leastWith s f v w = elim (holds s f) [ true ↦ min v w | false ↦ v ]
+
+-- ---- what stands above a row
+
+-- the schema with the first i of its groups alone
+unfoldable pub groupsAbove : Schema → ℕ → Schema
+groupsAbove sc i = record { types = sc .types; groups = take i (sc .groups); subElements = sc .subElements; files = sc .files }
+
+-- the schema with the first i of its S rows alone
+unfoldable pub rowsAbove : Schema → ℕ → Schema
+rowsAbove sc i = record { types = sc .types; groups = sc .groups; subElements = take i (sc .subElements); files = sc .files }

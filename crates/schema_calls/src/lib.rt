@@ -1,0 +1,4 @@
+// Schema calls and schema rules on the lent schema table.
+pub mod calls;
+pub mod files;
+pub mod rules;
