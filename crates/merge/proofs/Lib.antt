@@ -1,3 +1,5 @@
 pub mod Stars
 pub mod Laws
 pub mod Withdrawal
+pub mod Passing
+pub mod PrintsBack

@@ -1,4 +1,4 @@
--- Demand 3, of the rules, and that no call of a list meets a state that refusal 0 would stop. Assumes nothing.
+-- Demand 3, of the rules, and that every call of a list meets a sound state. Assumes nothing.
 use Rattle.merge.specs.Sound.{StaysSound}
 use Rattle.merge.specs.Withdrawal.{Demand3}
 use Rattle.merge.proofs.Laws.Invariant.{Inv}

@@ -11,3 +11,4 @@ pub mod Program
 pub mod Stars
 pub mod Withdrawal
 pub mod Sound
+pub mod DeckLines

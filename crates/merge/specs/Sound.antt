@@ -12,6 +12,9 @@ use Rattle.tables.specs.Limits.{elementLimit, depthLimit, itemLimit, logLimit}
 use Rattle.tables.specs.Records.{Element, SubElement, Tree, Item, child, text, Entry, import, restriction, extension, State, Fixed, root, nameOf, typeOf, depthOf, parentOf, setOf, listOf, contentItems}
 use Rattle.deck.specs.Load.{load, loaded}
 use Rattle.deck.specs.Schema.{declaredFiles, declaresFile, findSubElement, allVersions}
+use Rattle.load.specs.LoadCall.{Tables, encoded, loadCall}
+use Rattle.load.specs.declared.load.Answer.the-variants.{Loaded}
+use Rattle.state_test.specs.StateTest.{lentTablesPass}
 use Rattle.merge.specs.Book.{Call}
 use Rattle.merge.specs.Pairing.{children}
 use Rattle.merge.specs.Withdrawal.{stateAfter}
@@ -91,6 +94,28 @@ pub record Sound (x : Fixed) (s : State) : Type 0 where
   -- the model root's set is not 0
   pub rootSet : 0 < setOf (s .model) root
 
--- After a load, no call of a list of calls meets a state that refusal 0 would stop.
+-- After a load, every call of a list of calls meets a sound state.
 abbrev pub StaysSound : Type 0
 StaysSound = (deck : List ℕ) (x : Fixed) (s : State) → load deck ≡ loaded x s → (cs : List Call) → Sound x (stateAfter x cs s)
+
+-- ---- refusal 0
+
+-- the tables pass the whole of its test
+abbrev pub TablesPass : List ℕ → Tables → Type 0
+TablesPass deck t = lentTablesPass deck (t .schema) (t .elements) (t .model) (t .log) ≡ true
+
+-- those of the records do
+abbrev pub Passes : List ℕ → Fixed → State → Type 0
+Passes deck x s = TablesPass deck (encoded x s)
+
+-- What a load accepts passes,
+abbrev pub LoadPasses : Type 0
+LoadPasses = (deck : List ℕ) (x : Fixed) (s : State) → load deck ≡ loaded x s → Passes deck x s
+
+-- and so do the tables that the call leaves where it answers that the deck is loaded;
+abbrev pub LoadCallPasses : Type 0
+LoadCallPasses = (deck : List ℕ) (t : Tables) → loadCall deck t .answer ≡ Loaded → TablesPass deck (loadCall deck t .tables)
+
+-- and after a load no call of a list of calls meets a state that refusal 0 would stop.
+abbrev pub StaysPassing : Type 0
+StaysPassing = (deck : List ℕ) (x : Fixed) (s : State) → load deck ≡ loaded x s → (cs : List Call) → Passes deck x (stateAfter x cs s)

@@ -1,9 +1,9 @@
 -- What holds of each case holds of the choice between them, and of a sequence of steps. Assumes nothing.
-use mathlib.Core.Bool.{Bool, true, false, _&&_, _||_, and-eq-true-iff, false≢true}
+use mathlib.Core.Bool.{Bool, true, false, _&&_, and-eq-true-iff}
 use mathlib.Core.List.{List, [], _∷_}
 use mathlib.Core.Logic.{_⊎_, inl, inr}
-use mathlib.Core.Option.{Option, none, some, bind}
-use mathlib.Core.Path.{_≡_, refl, sym}
+use mathlib.Core.Option.{Option, none, some, bind, Option·none-ne-some, Option·some-injective}
+use mathlib.Core.Path.{_≡_, refl, sym, subst}
 use Prim.Native.Nat.{ℕ}
 use borrow.Author.Tests.{eqb-true, eqb-false}
 use lib.Dec.{eqb}
@@ -23,21 +23,12 @@ bool-split false h k = k refl
 pub same-or-other : (a b : ℕ) → (a ≡ b) ⊎ (a ≡ b → ⊥)
 same-or-other a b = bool-split (eqb a b) (λ h. inl (eqb-true a b h)) (λ h. inr (eqb-false a b h))
 
--- two tests that both pass
-pub and-both : (a b : Bool) → (a && b) ≡ true → (a ≡ true) × (b ≡ true)
-and-both a b h = and-eq-true-iff a b .0 h
-
 -- three tests that all pass
 pub and-three : (a b c : Bool) → (a && b && c) ≡ true → (a ≡ true) × (b ≡ true) × (c ≡ true)
 and-three a b c h =
-    let (ab, k) = and-both (a && b) c h in
-    let (i, j) = and-both a b ab in
+    let (ab, k) = and-eq-true-iff (a && b) c .0 h in
+    let (i, j) = and-eq-true-iff a b .0 ab in
     (i, j, k)
-
--- one of two tests passes, and the first does not
-pub or-second : (a b : Bool) → (a || b) ≡ true → a ≡ false → b ≡ true
-or-second true b h k = absurd (false≢true (sym k))
-or-second false b h k = h
 
 -- ---- choices
 
@@ -73,6 +64,11 @@ pub data IfSome {A : Type 0} (D : A → Type 0) : Option A → Type 0 where
   isSome : {a : A} → D a → IfSome D (some a)
   isNone : IfSome D none
 
+-- what the value fits by being it
+pub some-of : {A : Type 0} {D : A → Type 0} (o : Option A) → ((a : A) → o ≡ some a → D a) → IfSome D o
+some-of none h = isNone
+some-of (some a) h = isSome (h a refl)
+
 -- what follows of the value
 pub some-map : {A : Type 0} {D D′ : A → Type 0} {o : Option A} → ((a : A) → D a → D′ a) → IfSome D o → IfSome D′ o
 some-map f (isSome {a} h) = isSome (f a h)
@@ -90,6 +86,11 @@ pub any-bind : {A B : Type 0} {D : B → Type 0} (o : Option A) {f : A → Optio
 unfolding bind
 any-bind none k = isNone
 any-bind (some a) k = k a
+
+-- what holds of the value that there is
+pub some-value : {A : Type 0} {D : A → Type 0} {o : Option A} {v : A} → IfSome D o → o ≡ some v → D v
+some-value {D = D} {v = v} (isSome {a} h) e = subst D (Option·some-injective a v e) h
+some-value {v = v} isNone e = absurd (Option·none-ne-some v e)
 
 -- ---- steps of a load
 
@@ -130,6 +131,11 @@ module _ {A B : Type 0} {D : A → Type 0} where
       → P (elim r [ ok a ↦ u a | notOk n ↦ v n ])
   ok-case P (isOk {a} h) k l = k a h
   ok-case P (isNotOk {n}) k l = l n
+
+-- two facts of the value
+pub ok-both : {A : Type 0} {D D′ D″ : A → Type 0} {r : Res A} → IfOk D r → IfOk D′ r → ((a : A) → D a → D′ a → D″ a) → IfOk D″ r
+ok-both (isOk {a} h) (isOk k) f = isOk (f a h k)
+ok-both isNotOk k f = isNotOk
 
 -- ---- steps of a merge
 

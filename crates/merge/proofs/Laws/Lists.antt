@@ -1,5 +1,5 @@
 -- Laws of lists that the library lacks. Assumes nothing.
-use mathlib.Core.Bool.{Bool, true, false, true≢false}
+use mathlib.Core.Bool.{Bool, true, false, true≢false, false≢true}
 use mathlib.Core.List.{List, [], _∷_, _++_, map, List·Memᴰ·head, List·Memᴰ·tail, List·Memᴰ·cases-cons, List·Memᴰ·append-cases, List·Memᴰ·eq-of-singleton, List·Memᴰ·not-nil}
 use mathlib.Core.Logic.{_⊎_, inl, inr, ⊎-elim}
 use mathlib.Core.Option.{Option, none, some, Option·none-ne-some, Option·some-injective}
@@ -7,11 +7,17 @@ use mathlib.Core.Path.{_≡_, refl, sym, ap, subst, _∙_}
 use Prim.Native.Nat.{ℕ, zero, suc, _+_, _≤_, _<_}
 use native.Mathlib.Nat.{le-of-suc-le-suc, not-suc-le-zero}
 use native.Mathlib.Omega.{arith}
-use borrow.Author.Tests.{eq-eqb}
+use borrow.Author.Tests.{eq-eqb, eqb-true}
 use lib.Dec.{eqb}
 use lib.ListN.{length, getD, getElem?, take, set, List·getD-eq-default}
-use Rattle.tables.specs.Lists.{anyOf, firstOf, insertAt, keep, sum}
+use Rattle.tables.specs.Cells.{Each}
+use Rattle.tables.specs.Lists.{anyOf, allOf, firstOf, insertAt, keep, sum, sameList}
+use Rattle.tables.specs.ModelTable.{flat}
 use Rattle.tables.specs.Records.{Element, Item, child, text}
+use Rattle.tables.proofs.Laws.Cells.{each-append}
+use Rattle.tables.proofs.Laws.Lists.{length-insertAt}
+use Rattle.table_test.proofs.Laws.PassingRows.{each-passes}
+use Rattle.schema_calls.proofs.Laws.Scans.{any-none}
 use Rattle.merge.specs.Pairing.{children}
 use Rattle.merge.specs.Sound.{In, Once, once-nil, once-cons}
 use Rattle.merge.proofs.Laws.Cases.{bool-case}
@@ -34,6 +40,46 @@ module _ {A : Type 0} (P : A → Type 0) {x : A} where
   -- and of one more at the end
   pub each-snoc : (l : List A) → P x → ((a : A) → In a l → P a) → (a : A) → In a (l ++ (x ∷ [])) → P a
   each-snoc l new old a i = ⊎-elim (old a) (λ e. subst P (sym e) new) (in-snoc l i)
+
+-- what holds of what each entry is sent to holds of the entries of the list of these
+pub map-in : {A B : Type 0} (P : B → Type 0) (f : A → B) (l : List A) → ((a : A) → In a l → P (f a)) → (b : B) → In b (map f l) → P b
+map-in P f [] h = each-nil _
+map-in P f (x ∷ l) h = each-cons P (h x (List·Memᴰ·head refl)) (map-in P f l (λ a i. h a (List·Memᴰ·tail i)))
+
+-- ---- what holds of each entry, as the tables have it
+
+module _ {A : Type 0} (P : A → Type 0) where
+  -- what holds of each entry of a list holds of one
+  pub each-in : (l : List A) → Each P l → (a : A) → In a l → P a
+  each-in [] h = each-nil _
+  each-in (x ∷ l) h = each-cons P (h .0) (each-in l (h .1))
+
+  -- what holds of any entry holds of each
+  pub in-each : (l : List A) → ((a : A) → In a l → P a) → Each P l
+  in-each [] h = tt
+  in-each (x ∷ l) h = (h x (List·Memᴰ·head refl), in-each l (λ a i. h a (List·Memᴰ·tail i)))
+
+  -- what holds at each place holds of each entry
+  pub at-each : (l : List A) (d : A) → ((i : ℕ) → P (getD l i d)) → Each P l
+  at-each [] d h = tt
+  at-each (x ∷ l) d h = (h 0, at-each l d (λ i. h (suc i)))
+
+  -- what holds of the entries of each list holds of all of them together
+  pub flat-each : (ls : List (List A)) → ((p : ℕ) (a : A) → In a (getD ls p []) → P a) → Each P (flat ls)
+  unfolding flat
+  flat-each [] h = tt
+  flat-each (l ∷ ls) h = each-append P l (flat ls) (in-each l (h 0)) (flat-each ls (λ p. h (suc p)))
+
+-- two facts of each entry
+pub each-both : {A : Type 0} (P Q : A → Type 0) (l : List A) → Each P l → Each Q l → Each (λ (a : A). P a × Q a) l
+each-both P Q [] h k = tt
+each-both P Q (a ∷ l) h k = ((h .0, k .0), each-both P Q l (h .1) (k .1))
+
+-- the entry at a place stands in the list
+pub at-in : {A : Type 0} (l : List A) (d : A) (i : ℕ) → i < length l → In (getD l i d) l
+at-in [] d i h = absurd (not-suc-le-zero h)
+at-in (x ∷ l) d zero h = List·Memᴰ·head refl
+at-in (x ∷ l) d (suc i) h = List·Memᴰ·tail (at-in l d i (le-of-suc-le-suc h))
 
 -- ---- entries that stand in another list
 
@@ -80,11 +126,19 @@ module _ {A : Type 0} (t : A → Bool) where
   anyOf-false [] h = each-nil _
   anyOf-false (x ∷ l) h = let (k, r) = anyOf-cons x l h in each-cons (λ (a : A). t a ≡ false) k (anyOf-false l r)
 
+  -- not any entry passes where none does
+  pub anyOf-none : (l : List A) → ((a : A) → In a l → t a ≡ false) → anyOf t l ≡ false
+  unfolding anyOf
+  anyOf-none [] h = refl
+  anyOf-none (x ∷ l) h = rw (h x (List·Memᴰ·head refl), anyOf) (anyOf-none l (λ a i. h a (List·Memᴰ·tail i)))
+
   -- not any entry passes where none can
   pub anyOf-never : ((a : A) → t a ≡ false) → (l : List A) → anyOf t l ≡ false
-  unfolding anyOf
-  anyOf-never h [] = refl
-  anyOf-never h (x ∷ l) = rw (h x, anyOf) (anyOf-never h l)
+  anyOf-never h l = anyOf-none l (λ a _. h a)
+
+  -- every entry passes where each does
+  pub allOf-each : (l : List A) → ((a : A) → In a l → t a ≡ true) → allOf t l ≡ true
+  allOf-each l h = each-passes t l (in-each (λ (a : A). t a ≡ true) l h)
 
   -- the first entry that passes does pass and stands in the list
   pub firstOf-some : (l : List A) {a : A} → firstOf t l ≡ some a → (t a ≡ true) × In a l
@@ -97,11 +151,17 @@ module _ {A : Type 0} (t : A → Bool) where
 
   -- no entry passes where there is no first
   pub firstOf-none : (l : List A) → firstOf t l ≡ none → (a : A) → In a l → t a ≡ false
-  unfolding firstOf
-  firstOf-none [] = λ h. each-nil _
-  firstOf-none (x ∷ l) =
-      bool-case (λ (o : Option A). o ≡ none → (a : A) → In a (x ∷ l) → t a ≡ false) (t x) (λ _ h. absurd (Option·none-ne-some x (sym h)))
-      (λ k h. each-cons (λ (a : A). t a ≡ false) k (firstOf-none l h))
+  firstOf-none l h = anyOf-false l (sym (any-none t l h))
+
+-- lists that the test of equality passes
+pub same-bytes : (xs ys : List ℕ) → sameList xs ys ≡ true → xs ≡ ys
+unfolding sameList
+same-bytes [] [] h = refl
+same-bytes [] (b ∷ ys) h = absurd (false≢true h)
+same-bytes (a ∷ xs) [] h = absurd (false≢true h)
+same-bytes (a ∷ xs) (b ∷ ys) h =
+    bool-case (λ (t : Bool). t ≡ true → a ∷ xs ≡ b ∷ ys) (eqb a b)
+    (λ e k. ap (λ (c : ℕ). c ∷ xs) (eqb-true a b e) ∙ ap (λ (r : List ℕ). b ∷ r) (same-bytes xs ys k)) (λ _ k. absurd (false≢true k)) h
 
 -- ---- one entry more at the end
 
@@ -120,12 +180,6 @@ module _ {A : Type 0} where
     where
       past : length l ≤ i → d ≡ getD l i d
       past h = sym (List·getD-eq-default l d h)
-
-  -- a place that holds an entry is within the list
-  pub getElem?-lt : (l : List A) (i : ℕ) (a : A) → getElem? l i ≡ some a → i < length l
-  getElem?-lt [] i a h = absurd (Option·none-ne-some a h)
-  getElem?-lt (x ∷ l) zero a h = omega arith
-  getElem?-lt (x ∷ l) (suc i) a h = omega (arith, getElem?-lt l i a h)
 
   -- an entry of a front with one more is an old entry or the new one
   pub getElem?-front : (l : List A) (n i : ℕ) (a b : A) → n ≤ length l → getElem? (take n l ++ (b ∷ [])) i ≡ some a
@@ -164,25 +218,13 @@ module _ {A : Type 0} where
   in-insert (x ∷ l) (suc n) h =
       ⊎-elim (λ e. inr (List·Memᴰ·head e)) (λ k. ⊎-elim inl (λ i. inr (List·Memᴰ·tail i)) (in-insert l n k)) (List·Memᴰ·cases-cons h)
 
-  length-insert : (l : List A) (n : ℕ) (a : A) → length (insertAt l n a) ≡ suc (length l)
-  unfolding insertAt
-  length-insert l zero a = refl
-  length-insert [] (suc n) a = refl
-  length-insert (x ∷ l) (suc n) a = ap suc (length-insert l n a)
-
   -- an entry more in one of the lists is one more over all
   pub sum-insert : (ls : List (List A)) (p n : ℕ) (a : A) → p < length ls
       → sum (map length (set ls p (insertAt (getD ls p []) n a))) ≡ suc (sum (map length ls))
   unfolding sum
   sum-insert [] p n a h = absurd (not-suc-le-zero h)
-  sum-insert (l ∷ ls) zero n a h = omega (arith, length-insert l n a)
+  sum-insert (l ∷ ls) zero n a h = omega (arith, length-insertAt l n a)
   sum-insert (l ∷ ls) (suc p) n a h = omega (arith, sum-insert ls p n a (le-of-suc-le-suc h))
-
-  -- an empty list more is none more over all
-  pub sum-snoc : (ls : List (List A)) → sum (map length (ls ++ ([] ∷ []))) ≡ sum (map length ls)
-  unfolding sum
-  sum-snoc [] = refl
-  sum-snoc (l ∷ ls) = ap (λ (n : ℕ). length l + n) (sum-snoc ls)
 
 -- ---- lists without repetition
 
@@ -205,7 +247,8 @@ once-right (e ∷ l) o = once-right l (once-tail o)
 pub child-same : {e c : Element} → child e ≡ child c → e ≡ c
 child-same h = cc
 
-in-children : {e : Element} (l : List Item) → In (child e) l → In e (children l)
+-- and a child of the list is one of its children
+pub in-children : {e : Element} (l : List Item) → In (child e) l → In e (children l)
 unfolding children
 in-children [] h = absurd (List·Memᴰ·not-nil h)
 in-children (child c ∷ l) h =

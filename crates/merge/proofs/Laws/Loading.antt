@@ -7,18 +7,20 @@ use mathlib.Core.Path.{_≡_, refl, sym, ap, _∙_}
 use Prim.Native.Nat.{ℕ, suc, _≤_, _<_, zero-le}
 use native.Mathlib.Nat.{le-refl}
 use native.Mathlib.Omega.{arith}
-use lib.ListN.{length, getD, getElem?, take, set, length-append, length-set, List·getD-append}
-use lib.Seq.{getD-at, set-append-left}
+use lib.ListN.{length, getElem?, take, set, length-append, length-set, List·getD-append}
+use lib.Seq.{getD-at}
 use Rattle.tables.specs.FileSets.{partOf}
 use Rattle.tables.specs.Limits.{elementLimit, depthLimit, itemLimit}
 use Rattle.tables.specs.Lists.{insertAt, sum}
 use Rattle.tables.specs.Records.{Element, Name, TypeNumber, FileSet, SubElement, Schema, Tree, Text, Item, child, text, Model, Fixed, root, nameOf, typeOf, depthOf, parentOf, setOf, listOf, addToModel, insertItem, putList, contentItems}
+use Rattle.tables.proofs.Laws.Model.{parent-add, parent-add-new, total-add}
 use Rattle.deck.specs.Load.{append, nothing}
 use Rattle.deck.specs.Schema.{declaredFiles, findSubElement, allVersions}
+use Rattle.deck.proofs.Laws.Load.{append-added}
 use Rattle.merge.specs.Pairing.{children}
 use Rattle.merge.specs.Sound.{In, count, Once, once-nil, Fits, TreeFits, ItemFits, Kept}
 use Rattle.merge.proofs.Laws.Invariant.{Owns, Inv}
-use Rattle.merge.proofs.Laws.Lists.{in-snoc, each-nil, each-snoc, getD-snoc, getD-snoc-default, getElem?-front, sum-snoc, once-insert, children-insert-text}
+use Rattle.merge.proofs.Laws.Lists.{in-snoc, each-nil, each-snoc, getD-snoc, getD-snoc-default, getElem?-front, once-insert, children-insert-text}
 use Rattle.merge.proofs.Laws.Models.{insert-list, insert-in, insert-items}
 
 -- trees whose roots are elements, each with a file and a root of its own
@@ -90,8 +92,7 @@ module _ {x : Fixed} {m : Model} {above : List Element} (b : Built x m above) (n
   kept-depth e h = List·getD-append (x .elements .depths) (new .depth ∷ []) 0 e (omega (arith, b .depths))
 
   kept-parent : (e : Element) → e < count x → parentOf m′ e ≡ parentOf m e
-  unfolding addToModel
-  kept-parent e h = List·getD-append (m .parents) (new .parent ∷ []) none e (omega (arith, b .kept .parents))
+  kept-parent e h = parent-add m (new .parent) (new .set) e (omega (arith, b .kept .parents))
 
   -- the new element's type
   pub new-type : typeOf x′ (count x) ≡ new .type
@@ -140,8 +141,7 @@ module _ {x : Fixed} {m : Model} {above : List Element} (b : Built x m above) (n
 
   -- its parent
   pub new-parent : parentOf m′ (count x) ≡ new .parent
-  unfolding addToModel
-  new-parent = getD-at (m .parents) (new .parent) [] none (count x) (b .kept .parents)
+  new-parent = ap (parentOf m′) (sym (b .kept .parents)) ∙ parent-add-new m (new .parent) (new .set)
 
   -- the trees so far fit with it
   pub trees-added : TreesFit x′ m′ (x .elements .trees)
@@ -195,7 +195,7 @@ module _ {x : Fixed} {m : Model} {above : List Element} (b : Built x m above) (n
               λ e.
               getD-snoc (λ (f : FileSet). partOf f (declaredFiles (x .schema)) ≡ true) (m .sets) (new .set) 0 e (λ h. b .kept .declared e) (λ h. part)
               (λ h. refl);
-          fewItems = rw (sum-snoc (m .lists)) (b .kept .fewItems);
+          fewItems = rw (total-add m (new .parent) (new .set)) (b .kept .fewItems);
           fewEntries = zero-le;
           entries = each-nil _;
         }
@@ -340,17 +340,6 @@ module _ {x : Fixed} {m : Model} {above : List Element} (b : Built x m above) (t
               };
         }
 
--- the list of another element may have its item before or after the new element comes
-put-added : (m : Model) (p : Element) (i : Item) (q : Option Element) (s : FileSet) → p < length (m .lists)
-    → addToModel (append m p i) q s ≡ append (addToModel m q s) p i
-unfolding addToModel append insertItem putList
-put-added m p i q s h =
-    λ k. record { parents = m .parents ++ (q ∷ []); sets = m .sets ++ (s ∷ []); lists = same k }
-  where
-    same : set (m .lists) p (insertAt (listOf m p) (length (listOf m p)) i) ++ ([] ∷ [])
-        ≡ set (m .lists ++ ([] ∷ [])) p (insertAt (getD (m .lists ++ ([] ∷ [])) p []) (length (getD (m .lists ++ ([] ∷ [])) p [])) i)
-    same = rw (getD-snoc-default (m .lists) [] p, set-append-left (m .lists) ([] ∷ []) p _ h)
-
 -- ---- one more child
 
 module _ {x : Fixed} {m : Model} {above : List Element} (b : Built x m above) where
@@ -372,9 +361,9 @@ module _ {x : Fixed} {m : Model} {above : List Element} (b : Built x m above) wh
         new-parent b new trees,
         λ h. omega (arith, b .kept .items p item (rw (getD-snoc-default (m .lists) [] p) at h)),
       ) in
-      rw (put-added m p item (some p) s (rw (b .kept .lists) range))
+      rw (← append-added m p item (some p) s (rw (b .kept .lists) range))
       (built-put added (x .elements .texts) p item stands (rw length-append (omega arith)) (le-refl _) (rw length-append (omega arith))
-      (rw (sum-snoc (m .lists)) room))
+      (rw (total-add m (some p) s) room))
 
 -- ---- what the finished load has
 

@@ -13,6 +13,7 @@ use Rattle.tables.specs.FileSets.{holds, withFile, loadedFiles, waitingTree}
 use Rattle.tables.specs.Limits.{depthLimit, logLimit}
 use Rattle.tables.specs.Records.{Element, FileNumber, Tree, child, Model, extension, State, Fixed, root, parentOf, setOf, listOf, putSet}
 use Rattle.tables.proofs.Laws.FileSets.{holds-withFile, holds-withFile-other, withFile-positive}
+use Rattle.tables.proofs.Laws.Model.{set-putSet}
 use Rattle.merge.specs.Book.{sumOf}
 use Rattle.merge.specs.Calls.{Counts, countsOf, entriesAbove, merged, mergeRefused, Merged, mergedFrom, mergeTree, merge}
 use Rattle.merge.specs.Log.{isRootExtension, endsMerge}
@@ -25,7 +26,6 @@ use Rattle.merge.proofs.Laws.Invariant.{Under, here, below, Owns, Inv}
 use Rattle.merge.proofs.Laws.Levels.{Ready, Level, level-ok}
 use Rattle.merge.proofs.Laws.Lists.{firstOf-some}
 use Rattle.merge.proofs.Laws.Marks.{counts-above, mark-below}
-use Rattle.merge.proofs.Laws.Models.{put-set}
 use Rattle.merge.proofs.Laws.Moves.{unmarked-steps, unmarked-marks, Moves, moves-put}
 use Rattle.merge.proofs.Laws.Steps.{extends, Steps, step, IsMerge}
 use Rattle.merge.proofs.Laws.Undo.{steps-longer}
@@ -111,7 +111,7 @@ module _ (x : Fixed) (s : State) (inv : Inv x s) (tr : Tree) (among : In tr (x .
     -- the root's set gains the file of the tree
     root-after : setOf (after .model) root ≡ withFile (loadedFiles start) (tr .file)
     root-after =
-        put-set (u .model) root _ (omega (arith, inv .static .some, level .kept .sets)) ∙ ap (λ v. withFile v (tr .file)) (level .rootSet)
+        set-putSet (u .model) root _ (omega (arith, inv .static .some, level .kept .sets)) ∙ ap (λ v. withFile v (tr .file)) (level .rootSet)
 
     waits-after : (t : Tree) → holds (loadedFiles (after .model)) (t .file) ≡ false
         → (t .file ≡ tr .file → ⊥) × (holds (loadedFiles start) (t .file) ≡ false)

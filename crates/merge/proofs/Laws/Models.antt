@@ -7,22 +7,10 @@ use Prim.Native.Nat.{ℕ, suc, _<_}
 use lib.ListN.{length}
 use lib.Seq.{getD-set-same, getD-set-other}
 use Rattle.tables.specs.Lists.{insertAt}
-use Rattle.tables.specs.Records.{Element, FileNumber, FileSet, Item, child, Model, parentOf, setOf, listOf, putParent, putSet, putList, insertItem, contentItems}
+use Rattle.tables.specs.Records.{Element, FileNumber, Item, child, Model, parentOf, setOf, listOf, putParent, putSet, putList, insertItem, contentItems}
 use Rattle.merge.specs.Import.{adopt}
 use Rattle.merge.specs.Sound.{In}
 use Rattle.merge.proofs.Laws.Lists.{getD-set, in-insert, sum-insert}
-
--- ---- a set put
-
--- the set is the one put
-pub put-set : (m : Model) (e : Element) (v : FileSet) → e < length (m .sets) → setOf (putSet m e v) e ≡ v
-unfolding putSet
-put-set m e v h = getD-set-same (m .sets) e v 0 h
-
--- other sets stay
-pub put-set-other : (m : Model) (e : Element) (v : FileSet) (q : Element) → (q ≡ e → ⊥) → setOf (putSet m e v) q ≡ setOf m q
-unfolding putSet
-put-set-other m e v q h = getD-set-other (m .sets) e q v 0 h
 
 -- ---- an item put in
 

@@ -8,12 +8,12 @@ use Prim.Native.Nat.{ℕ, suc, _≤_, _<_}
 use native.Mathlib.Omega.{arith}
 use lib.ListN.{length}
 use Rattle.tables.specs.Records.{Element, FileSet, child, Model, Entry, State, Fixed, root, parentOf, setOf, listOf, putSet}
+use Rattle.tables.proofs.Laws.Model.{set-putSet-other}
 use Rattle.merge.specs.Log.{isRootExtension, isMark}
 use Rattle.merge.specs.Sound.{In, Kept}
 use Rattle.merge.proofs.Laws.Cases.{same-or-other}
 use Rattle.merge.proofs.Laws.Chains.{Common, at, up}
 use Rattle.merge.proofs.Laws.Marks.{mark-below, mark-top}
-use Rattle.merge.proofs.Laws.Models.{put-set-other}
 use Rattle.merge.proofs.Laws.Steps.{Change, Steps, stay, step}
 
 -- ---- paths with no mark within
@@ -181,6 +181,6 @@ module _ {start : Model} {b : Element} where
         record {
           unmarked = more (h .unmarked) c plain;
           kept = k;
-          rootSet = put-set-other (u .model) e v root (λ q. other (sym q)) ∙ h .rootSet;
+          rootSet = set-putSet-other (u .model) e v root (λ q. other (sym q)) ∙ h .rootSet;
           moves = moves-put e v (h .moves);
         }

@@ -11,6 +11,7 @@ use Rattle.tables.specs.FileSets.{withFile, withoutFile}
 use Rattle.tables.specs.Lists.{insertAt, removeAt}
 use Rattle.tables.specs.Records.{Element, Item, child, text, Model, Entry, Log, State, parentOf, setOf, listOf, putParent, putSet, putList, insertItem, removeItem}
 use Rattle.tables.proofs.Laws.FileSets.{withoutFile-withFile}
+use Rattle.tables.proofs.Laws.Model.{putSet-back}
 use Rattle.merge.specs.Import.{adopt}
 use Rattle.merge.specs.Log.{placeOf, takeOut, undo, undoTo, rollbackMerge}
 use Rattle.merge.specs.Sound.{In}
@@ -66,8 +67,7 @@ takeOut-list e p m = go (placeOf e (listOf m p))
 -- undoing a change gives back the model before it
 pub undo-change : {m n : Model} {e : Entry} → Change m e n → undo e n ≡ m
 unfolding undo adopt insertItem putList putSet putParent
-undo-change {m} (restricts e files) =
-    λ i. record { parents = m .parents; sets = set-back (m .sets) e 0 files (λ _. setOf m e) refl i; lists = m .lists }
+undo-change {m} (restricts e files) = putSet-back m e files
 undo-change {m} (extends e f absent) =
     λ i.
     record {

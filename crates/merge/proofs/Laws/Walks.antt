@@ -1,5 +1,5 @@
 -- What the plan of a level holds. Assumes nothing.
-use mathlib.Core.Bool.{Bool, _&&_}
+use mathlib.Core.Bool.{Bool, _&&_, and-eq-true-iff}
 use mathlib.Core.List.{List, [], _∷_, _++_, map}
 use mathlib.Core.Option.{Option, none, some}
 use mathlib.Core.Path.{_≡_, sym}
@@ -13,7 +13,7 @@ use Rattle.tables.specs.Records.{Element, TypeNumber, Version, Model, Fixed, na
 use Rattle.deck.specs.Schema.{splittableIn}
 use Rattle.merge.specs.Pairing.{childrenOf, elementText, identifiable, itemName, definition, sameKey, sameTexts, Action, mergeEqual, mergeUnequal, aOnly, bOnly, unmergeableParent, sibling, calcIdentifiablesMerge, calcElementMerge, pathOf, actionByPath, actionOf, Pair, NewItem, Plan, Walked, planned, unmergeableIn, restrictFirst, importFirst, pairFirst, importUnpaired, leftOverA, leftOverB, walk, walkLevel, uses, firstUsedTwice}
 use Rattle.merge.specs.Sound.{In, Once, once-nil, once-cons}
-use Rattle.merge.proofs.Laws.Cases.{and-both, bool-case, option-case}
+use Rattle.merge.proofs.Laws.Cases.{bool-case, option-case}
 use Rattle.merge.proofs.Laws.Lists.{each-nil, each-cons, Within, within-cons, within-more, within-both, within-head, within-tail, within-append, firstOf-some, firstOf-none, once-head, once-tail, once-of, occurrences-append, occurrences-map}
 
 -- the elements that a list imports, and those that pairs name
@@ -61,7 +61,7 @@ sibling-fits : (x : Fixed) (key : Element → Option (List ℕ)) (bs : List Elem
 unfolding sibling
 sibling-fits x key bs a {c} h =
     let (k, i) = firstOf-some (λ (b : Element). eqb (nameOf x b) (nameOf x a) && sameKey (key b) (key a)) bs h in
-    (i, sym (eqb-true _ _ (and-both (eqb (nameOf x c) (nameOf x a)) _ k .0)))
+    (i, sym (eqb-true _ _ (and-eq-true-iff (eqb (nameOf x c) (nameOf x a)) _ .0 k .0)))
 
 module _ (x : Fixed) (m : Model) (bs : List Element) (a b : Element) where
   identifiables-fit : (splittable : Bool) → nameOf x a ≡ nameOf x b → ActionFits x bs a b (calcIdentifiablesMerge x m splittable bs a b)

@@ -1,0 +1,5 @@
+pub mod Scans
+pub mod Files
+pub mod Roots
+pub mod Schemas
+pub mod States

@@ -1,0 +1,63 @@
+-- `roots::list_typed` meets its contract. Assumes nothing.
+use mathlib.Core.Path.{_≡_, refl, ap, subst, _∙_}
+use mathlib.Core.List.{List}
+use Prim.Native.Nat.{ℕ, _-_}
+use lib.ListN.{getD, drop}
+use Rattle.tables.specs.Lists.{allOf}
+use Rattle.tables.specs.Records.{child, listOf}
+use Rattle.tables.specs.ModelTable.{modelOf, ItemBelow}
+use Rattle.tables.proofs.Laws.ModelTable.{item-below}
+use Rattle.state_test.specs.StateTest.{itemTyped, fixedIn}
+use Rattle.state_test.proofs.Laws.Scans.{each-stop, each-more, each-end}
+use borrow.Author.Needs.{needs}
+use Rattle.state_test.proofs.roots.list_typed.Statement.{statement}
+use Rattle.state_test.proofs.roots.list_typed.Tie as tie
+
+abbrev Inv-loop : tie.InvT-loop
+Inv-loop schema elements model p n i₀ i = (deck : List ℕ) → allOf (itemTyped (fixedIn deck schema elements) p) (drop i (listOf (modelOf model) p)) ≡ allOf (itemTyped (fixedIn deck schema elements) p) (listOf (modelOf model) p)
+
+abbrev μ-loop : tie.MeasureT-loop
+μ-loop schema elements model p n i₀ i = n - i
+
+list-length-requires : tie.Need-list-length-requires Inv-loop μ-loop
+list-length-requires c κs = search needs
+
+loop-holds : tie.Need-loop-holds Inv-loop μ-loop
+loop-holds c = λ deck. refl
+
+item-at-requires : tie.Need-item-at-requires Inv-loop μ-loop
+item-at-requires c κs = search needs
+
+item-typed-requires : tie.Need-item-typed-requires Inv-loop μ-loop
+item-typed-requires c κs =
+    let a = c .before .before .before .before .before .before .before .args in
+    let g = c .before .before .before .before .before .before .before .pre in
+    let k = c .before .before .before .list-length .ensures in
+    let l = c .before .before .loop in
+    let b = subst (λ (n : ℕ). ItemBelow n (getD (listOf (modelOf (a .model .now)) (a .p)) (l .i) (child 0))) (g .1 .1 .1 .0) (item-below (a .model .now) (g .1 .1 .0) (a .p) (l .i) (search needs)) in
+    (g .0, (g .1 .0, (search needs, rw (c .item-at .ensures) b)))
+
+returns : tie.Need-returns Inv-loop μ-loop
+returns c =
+    let a = c .before .before .before .before .before .before .before .before .before .args in
+    λ deck. each-stop (itemTyped (fixedIn deck (a .schema .now) (a .elements .now)) (a .p)) (listOf (modelOf (a .model .now)) (a .p)) (child 0) (c .before .before .before .before .loop .i) (search needs) (c .before .item-typed .ensures deck ∙ ap (itemTyped (fixedIn deck (a .schema .now) (a .elements .now)) (a .p)) (c .before .before .item-at .ensures)) (c .if1 .taken) (c .before .before .before .before .loop .inv deck)
+
+add-i : tie.Need-add-i Inv-loop μ-loop
+add-i c = search needs
+
+loop-less : tie.Need-loop-less Inv-loop μ-loop
+loop-less c = search needs
+
+loop-again : tie.Need-loop-again Inv-loop μ-loop
+loop-again c =
+    let a = c .before .before .before .before .before .before .before .before .before .args in
+    λ deck. each-more (itemTyped (fixedIn deck (a .schema .now) (a .elements .now)) (a .p)) (listOf (modelOf (a .model .now)) (a .p)) (child 0) (c .before .before .before .before .loop .i) (search needs) (c .before .item-typed .ensures deck ∙ ap (itemTyped (fixedIn deck (a .schema .now) (a .elements .now)) (a .p)) (c .before .before .item-at .ensures)) (c .if1 .left) (c .before .before .before .before .loop .inv deck)
+
+returns-2 : tie.Need-returns-2 Inv-loop μ-loop
+returns-2 c =
+    let a = c .before .before .before .before .before .before .args in
+    λ deck. each-end (itemTyped (fixedIn deck (a .schema .now) (a .elements .now)) (a .p)) (listOf (modelOf (a .model .now)) (a .p)) (c .before .loop .i) (search needs) (c .before .loop .inv deck)
+
+pub list-typed-spec : {M : Type 1} → statement M
+list-typed-spec =
+    tie.close (tie.spec Inv-loop μ-loop list-length-requires loop-holds item-at-requires item-typed-requires returns add-i loop-less loop-again returns-2)

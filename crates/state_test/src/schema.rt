@@ -1,0 +1,76 @@
+// Each G and S row stands by the rows above it.
+use deck::lines::RowCells;
+use schema_calls::rules::group_rule;
+use schema_calls::rules::sub_element_rule;
+use tables::schema::group_count;
+use tables::schema::group_path;
+use tables::schema::group_type;
+use tables::schema::row_child;
+use tables::schema::row_count;
+use tables::schema::row_mask;
+use tables::schema::row_mult;
+use tables::schema::row_name;
+use tables::schema::row_path;
+use tables::schema::row_type;
+ghost use mathlib.Core.Path.{_≡_};
+ghost use Prim.Native.Nat.{_<_};
+ghost use lib.ListN.{length, getD};
+ghost use Rattle.tables.specs.SchemaTable.{schemaOf, GoodSchema, noSubElement};
+ghost use Rattle.schema_calls.specs.Calls.{rowOf};
+ghost use Rattle.state_test.specs.StateTest.{groupsStand, rowsStand, schemaStands, typesAlone, withoutRows};
+
+fn groups_stand(schema: &[u64]) -> bool
+    requires { ⌜ GoodSchema (now schema) ⌝ }
+    ensures { λ r. ⌜ r ≡ groupsStand (typesAlone (schemaOf (now (schema .entry)))) (schemaOf (now (schema .entry)) .groups) ⌝ }
+{
+    let n = group_count(schema);
+    let mut i = 0;
+    while i < n {
+        if !group_rule(schema, i, group_type(schema, i), group_path(schema, i)) {
+            return false;
+        }
+        i += 1;
+    }
+    true
+}
+
+// Row i as an S line has it.
+fn row_cells(schema: &[u64], i: usize) -> RowCells
+    requires { ⌜ GoodSchema (now schema) ⌝ }
+    requires { ⌜ i < length (schemaOf (now schema) .subElements) ⌝ }
+    ensures { λ r. ⌜ rowOf r ≡ getD (schemaOf (now (schema .entry)) .subElements) i noSubElement ⌝ }
+{
+    RowCells {
+        ty: row_type(schema, i),
+        path: row_path(schema, i),
+        name: row_name(schema, i),
+        child: row_child(schema, i),
+        mult: row_mult(schema, i),
+        mask: row_mask(schema, i),
+    }
+}
+
+fn rows_stand(schema: &[u64]) -> bool
+    requires { ⌜ GoodSchema (now schema) ⌝ }
+    ensures { λ r. ⌜ r ≡ rowsStand (withoutRows (schemaOf (now (schema .entry)))) (schemaOf (now (schema .entry)) .subElements) ⌝ }
+{
+    let n = row_count(schema);
+    let mut i = 0;
+    while i < n {
+        if !sub_element_rule(schema, i, row_cells(schema, i)) {
+            return false;
+        }
+        i += 1;
+    }
+    true
+}
+
+pub fn schema_stands(schema: &[u64]) -> bool
+    requires { ⌜ GoodSchema (now schema) ⌝ }
+    ensures { λ r. ⌜ r ≡ schemaStands (schemaOf (now (schema .entry))) ⌝ }
+{
+    if !groups_stand(schema) {
+        return false;
+    }
+    rows_stand(schema)
+}
