@@ -1,0 +1,3 @@
+// What the programs over load print of a deck.
+pub mod answer;
+mod print;

@@ -1,0 +1,5 @@
+pub mod Buffers
+pub mod Digits
+pub mod Lines
+pub mod Trees
+pub mod Tables

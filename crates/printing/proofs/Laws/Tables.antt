@@ -1,0 +1,106 @@
+-- Tables that pass refusal 0 are read without a test of their own; what a call prints. Assumes nothing.
+use mathlib.Core.Bool.{Bool, true, false, not, _&&_, and-eq-true-iff}
+use mathlib.Core.List.{List, [], _∷_}
+use mathlib.Core.Option.{some, none}
+use mathlib.Core.Path.{_≡_, refl, sym, ap, _∙_, subst}
+use Prim.Native.Nat.{ℕ, zero, suc, _+_, _≤_, _<_}
+use native.Mathlib.Omega.{arith}
+use borrow.Author.Tests.{ltb-true}
+use lib.ListN.{length, getD, take}
+use Rattle.tables.specs.Limits.{depthLimit}
+use Rattle.tables.specs.Records.{enumNumber, child, text, listOf}
+use Rattle.tables.specs.ElementsTable.{elementsOf, noTree}
+use Rattle.tables.specs.ModelTable.{flat, startOf, countOf, modelOf, GoodModel}
+use Rattle.table_test.specs.ElementsTest.{TextIn, TreeIn}
+use Rattle.table_test.specs.ModelTest.{itemInRange, TestedModel}
+use Rattle.table_test.specs.TablesTest.{tablesPass, TestedTables}
+use Rattle.state_test.specs.StateTest.{schemaStands, rootSetStands, filesStand, rootsStand, listsTyped, stateStands, lentTablesPass, fixedIn, stateIn}
+use Rattle.tables.proofs.Laws.Cells.{each-getD}
+use Rattle.tables.proofs.Laws.Lists.{getD-flat}
+use Rattle.tables.proofs.Laws.ModelTable.{start-room, total-flat, listed-below}
+use Rattle.table_test.proofs.Laws.RowsTest.{all-at}
+use Rattle.table_test.proofs.Laws.TablesTest.{tested-tables}
+use Rattle.state_test.proofs.Laws.Files.{no-root-set, files-stop-1}
+use Rattle.printing.specs.declared.print.Printed.{Printed}
+use Rattle.printing.specs.declared.print.Printed.the-variants.{Bytes, Refused}
+use Rattle.printing.specs.Buffers.{Appends}
+use Rattle.merge.specs.DeckLines.{treesLines}
+use Rattle.printing.specs.TreeLines.{Readable, printedIs, countIs, printsTrees, Prints}
+
+-- every item of a list is in the range of what it names
+item-in-range : (texts : ℕ) (xs : List ℕ) (e i : ℕ) → TestedModel texts xs → i < length (listOf (modelOf xs) e)
+    → itemInRange (countOf (modelOf xs)) texts (getD (listOf (modelOf xs) e) i (child 0)) ≡ true
+item-in-range texts xs e i t h =
+    let m = modelOf xs in
+    let r = start-room xs (t .good) e (listed-below xs (t .good) e i h) in
+    let k : startOf (m .lists) e + i < length (flat (m .lists)) = rw (total-flat m (t .good .sized)) (omega arith) in
+    ap (itemInRange (countOf m) texts) (sym (getD-flat (m .lists) e i (child 0) h))
+    ∙ all-at (itemInRange (countOf m) texts) (flat (m .lists)) (startOf (m .lists) e + i) (child 0) (t .items) k
+
+module _ (deck schema es m log : List ℕ) where
+  pub readable : TestedTables (length deck) schema es m log → Readable deck es m
+  unfolding itemInRange
+  readable t =
+      let g = t .elementsTested .good in
+      let same = t .same in
+      let depths = g .sized .sameDepths in
+      record {
+        elementsGood = g;
+        modelGood = t .modelTested .good;
+        same = t .same;
+        low = λ e h. each-getD (λ (d : ℕ). d ≤ depthLimit) (elementsOf es .depths) e 0 (t .elementsTested .depths) (omega arith);
+        strings = λ i h. each-getD (TextIn (length deck)) (elementsOf es .texts) i (enumNumber 0) (t .elementsTested .texts) h;
+        texts = λ e i k h f.
+            let texts = length (elementsOf es .texts) in
+            ltb-true k texts (sym (ap (itemInRange (countOf (modelOf m)) texts) f) ∙ item-in-range texts m e i (t .modelTested) h);
+        roots = λ i h. rw same (each-getD (TreeIn (length (elementsOf es .names))) (elementsOf es .trees) i noTree (t .elementsTested .trees) h .1);
+      }
+
+  module _ (p : lentTablesPass deck schema es m log ≡ true) where
+    pub passed-tables : TestedTables (length deck) schema es m log
+    unfolding lentTablesPass
+    passed-tables =
+        tested-tables (length deck) schema es m log
+        (and-eq-true-iff (tablesPass (length deck) schema es m log) (stateStands (fixedIn deck schema es) (stateIn m log)) .0 p .0)
+
+    files-pass : filesStand (fixedIn deck schema es) (stateIn m log) ≡ true
+    unfolding lentTablesPass stateStands
+    files-pass =
+        let x = fixedIn deck schema es in
+        let s = stateIn m log in
+        let a = schemaStands (x .schema) in
+        let b = filesStand x s in
+        let c = rootsStand x in
+        let d = listsTyped x 0 (s .model .lists) in
+        let all = and-eq-true-iff (tablesPass (length deck) schema es m log) (stateStands x s) .0 p .1 in
+        let three = and-eq-true-iff (a && b && c) d .0 all .0 in
+        and-eq-true-iff a b .0 (and-eq-true-iff (a && b) c .0 three .0) .1
+
+    -- the model has a root
+    pub root-there : 0 < countOf (modelOf m)
+    root-there = by-count (countOf (modelOf m)) refl
+      where
+        by-count : (n : ℕ) → countOf (modelOf m) ≡ n → 0 < countOf (modelOf m)
+        by-count (suc n) e = omega arith
+        by-count zero e =
+            let sets = passed-tables .modelTested .good .sized .sets in
+            let f : false ≡ filesStand (fixedIn deck schema es) (stateIn m log) =
+            files-stop-1 (fixedIn deck schema es) (stateIn m log) (sym (no-root-set (modelOf m) (omega arith)))
+            in
+            let z : false ≡ true = f ∙ files-pass in
+            let o : _≡_ {A = ℕ} 0 1 = cc in
+            absurd (omega arith)
+
+    pub prints-bytes : {xs ys : List ℕ} {n : ℕ} → Appends xs ys 0 n (treesLines (fixedIn deck schema es) (modelOf m))
+        → Prints xs ys (Bytes n) deck schema es m log
+    unfolding printedIs countIs printsTrees
+    prints-bytes {xs} {ys} {n} a = record { is = rw (printsTrees, p) (ap some (a .is)); within = a .within }
+
+  pub prints-none : (xs ys : List ℕ) → lentTablesPass deck schema es m log ≡ false → Prints xs ys Refused deck schema es m log
+  unfolding printedIs countIs printsTrees
+  prints-none xs ys p = record { is = rw (printsTrees, p); within = omega arith }
+
+-- what a caller lends on of the buffer
+pub printed-within : {xs ys deck schema es m log : List ℕ} {r : Printed} {n : ℕ} → Prints xs ys r deck schema es m log → r ≡ Bytes n → n ≤ length ys
+unfolding countIs
+printed-within {xs} {ys} p e = subst (λ (q : Printed). countIs q ≤ length ys) e (p .within)

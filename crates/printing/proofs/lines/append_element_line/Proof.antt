@@ -1,0 +1,48 @@
+-- `lines::append_element_line` meets its contract. Assumes nothing.
+use Rattle.tables.specs.ModelTable.{modelOf}
+use Rattle.state_test.specs.StateTest.{fixedIn}
+use Rattle.printing.proofs.Laws.Buffers.{reads}
+use Rattle.printing.proofs.Laws.Lines.{element-line}
+use borrow.Author.Needs.{needs}
+use Rattle.printing.proofs.lines.append_element_line.Statement.{statement}
+use Rattle.printing.proofs.lines.append_element_line.Tie as tie
+
+element-depth-requires : tie.Need-element-depth-requires
+element-depth-requires c κs = search needs
+
+element-name-requires : tie.Need-element-name-requires
+element-name-requires c κs = search needs
+
+set-of-requires : tie.Need-set-of-requires
+set-of-requires c κs = search needs
+
+append-row-requires : tie.Need-append-row-requires
+append-row-requires c κs = search needs
+
+same-length : tie.Need-same-length
+same-length c = search needs
+
+returns : tie.Need-returns
+returns c =
+    let s = c .before .before .before .before .before .before .before .before .before .before .before in
+    λ schema.
+    reads
+    (element-line
+    (fixedIn (s .args .deck .now) schema (s .args .elements .now))
+    (modelOf (s .args .model .now))
+    (s .args .e)
+    (c .before .before .before .before .before .before .element-depth .ensures)
+    (c .before .before .before .before .before .element-name .ensures)
+    (c .before .before .before .before .set-of .ensures))
+    (c .before .before .append-row .ensures)
+
+pub append-element-line-spec : {M : Type 1} → statement M
+append-element-line-spec =
+    tie.close
+    (tie.spec
+    element-depth-requires
+    element-name-requires
+    set-of-requires
+    append-row-requires
+    same-length
+    returns)

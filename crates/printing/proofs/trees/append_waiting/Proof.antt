@@ -1,0 +1,83 @@
+-- `trees::append_waiting` meets its contract. Assumes nothing.
+use mathlib.Core.List.{List, []}
+use Prim.Native.Nat.{ℕ, _-_, _≤_, _<_}
+use native.Mathlib.Omega.{arith}
+use lib.ListN.{length, drop}
+use Rattle.tables.specs.ElementsTable.{elementsOf}
+use Rattle.tables.specs.ModelTable.{modelOf}
+use Rattle.state_test.specs.StateTest.{fixedIn}
+use Rattle.merge.specs.DeckLines.{waitingLines}
+use Rattle.printing.proofs.Laws.Buffers.{Leaves, begin}
+use Rattle.printing.proofs.Laws.Trees.{waiting-turn, waiting-end}
+use borrow.Author.Needs.{needs}
+use Rattle.printing.proofs.trees.append_waiting.Statement.{statement}
+use Rattle.printing.proofs.trees.append_waiting.Tie as tie
+
+abbrev Inv-loop : tie.InvT-loop
+Inv-loop deck elements model out₀ at n k₀ t₀ out k t =
+    (t ≤ n)
+    × ((schema : List ℕ)
+    → Leaves out₀ out at k (waitingLines (fixedIn deck schema elements) (modelOf model) (elementsOf elements .trees)) (waitingLines (fixedIn deck schema elements) (modelOf model) (drop t (elementsOf elements .trees))))
+
+abbrev μ-loop : tie.MeasureT-loop
+μ-loop deck elements model out₀ at n k₀ t₀ out k t = n - t
+
+tree-count-requires : tie.Need-tree-count-requires Inv-loop μ-loop
+tree-count-requires c κs = search needs
+
+loop-holds : tie.Need-loop-holds Inv-loop μ-loop
+loop-holds c =
+    let s = c .before .before .before .before .before in
+    (search needs, λ schema. begin (s .args .out .now) (s .args .at) _ (s .pre .1))
+
+append-tree-requires : tie.Need-append-tree-requires Inv-loop μ-loop
+append-tree-requires c κs =
+    (c .before .before .before .before .before .before .before .before .pre .0, (omega (arith, c .before .before .before .tree-count .ensures), c .before .before .loop .inv .1 [] .within))
+
+add-t : tie.Need-add-t Inv-loop μ-loop
+add-t c = search needs
+
+loop-less : tie.Need-loop-less Inv-loop μ-loop
+loop-less c = search needs
+
+loop-again : tie.Need-loop-again Inv-loop μ-loop
+loop-again c =
+    let s = c .before .before .before .before .before .before .before .before .before .before .before in
+    let l : c .before .before .before .before .before .loop .t < length (elementsOf (s .args .elements .now) .trees) =
+    omega (arith, c .before .before .before .before .before .before .tree-count .ensures, c .before .before .before .before .loop-test .taken)
+    in (
+      omega (arith, c .before .before .before .before .loop-test .taken),
+      λ schema.
+          waiting-turn
+          (fixedIn (s .args .deck .now) schema (s .args .elements .now))
+          (modelOf (s .args .model .now))
+          (elementsOf (s .args .elements .now) .trees)
+          (c .before .before .before .before .before .loop .t)
+          l
+          (c .before .before .before .before .before .loop .inv .1 schema)
+          (c .before .before .append-tree .ensures schema),
+    )
+
+same-length : tie.Need-same-length Inv-loop μ-loop
+same-length c = c .before .loop .inv .1 [] .same
+
+returns : tie.Need-returns Inv-loop μ-loop
+returns c =
+    let s = c .before .before .before .before .before .before .before in
+    let l : length (elementsOf (s .args .elements .now) .trees) ≤ c .before .loop .t = omega (arith, c .before .before .tree-count .ensures) in
+    λ schema. waiting-end (fixedIn (s .args .deck .now) schema (s .args .elements .now)) (modelOf (s .args .model .now)) (elementsOf (s .args .elements .now) .trees) (c .before .loop .t) l (c .before .loop .inv .1 schema)
+
+pub append-waiting-spec : {M : Type 1} → statement M
+append-waiting-spec =
+    tie.close
+    (tie.spec
+    Inv-loop
+    μ-loop
+    tree-count-requires
+    loop-holds
+    append-tree-requires
+    add-t
+    loop-less
+    loop-again
+    same-length
+    returns)

@@ -1,0 +1,165 @@
+// Trees, behind what a buffer holds.
+use crate::buffer::append_bytes;
+use crate::buffer::append_number;
+use crate::lines::append_element_line;
+use crate::lines::append_text_line;
+use tables::elements::element_depth;
+use tables::elements::tree_count;
+use tables::elements::tree_file;
+use tables::elements::tree_root;
+use tables::model::Item;
+use tables::model::item_at;
+use tables::model::list_length;
+use tables::numbers::Element;
+ghost use mathlib.Core.List.{List, [], _∷_};
+ghost use mathlib.Core.Path.{_≡_};
+ghost use Prim.Native.Nat.{ℕ, suc, _<_, _≤_};
+ghost use lib.ListN.{length, getD, drop};
+ghost use Rattle.tables.specs.Records.{Item, listOf, depthOf};
+ghost use Rattle.tables.specs.ElementsTable.{elementsOf, noTree};
+ghost use Rattle.tables.specs.ModelTable.{countOf, modelOf, itemIs};
+ghost use Rattle.state_test.specs.StateTest.{fixedIn};
+ghost use Rattle.merge.specs.Program.{itemLines, elementLines, modelLines};
+ghost use Rattle.printing.specs.Buffers.{Appends};
+ghost use Rattle.merge.specs.DeckLines.{treeLines, waitingLines, treesLines};
+ghost use Rattle.printing.specs.TreeLines.{Readable, ItemIn};
+
+// At most `left` levels of elements are printed.
+
+fn append_element(
+    deck: &[u8],
+    elements: &[u64],
+    model: &[u64],
+    out: &mut [u8],
+    at: usize,
+    e: usize,
+    left: u64,
+) -> usize
+    requires { ⌜ Readable (now deck) (now elements) (now model) ⌝ }
+    requires { ⌜ e < countOf (modelOf (now model)) ⌝ }
+    requires { ⌜ at ≤ length (now out) ⌝ }
+    ensures { λ r. ⌜ ((schema : List ℕ) → Appends (now (out .entry)) (now (out .exit)) at r (elementLines left (fixedIn (now (deck .entry)) schema (now (elements .entry))) (modelOf (now (model .entry))) e)) ⌝ }
+{
+    if left == 0 {
+        return at;
+    }
+    let k = append_element_line(deck, elements, model, out, at, e);
+    append_items(deck, elements, model, out, k, e, left - 1)
+}
+
+// The items of element e.
+fn append_items(
+    deck: &[u8],
+    elements: &[u64],
+    model: &[u64],
+    out: &mut [u8],
+    at: usize,
+    e: usize,
+    left: u64,
+) -> usize
+    requires { ⌜ Readable (now deck) (now elements) (now model) ⌝ }
+    requires { ⌜ e < countOf (modelOf (now model)) ⌝ }
+    requires { ⌜ at ≤ length (now out) ⌝ }
+    ensures { λ r. ⌜ ((schema : List ℕ) → Appends (now (out .entry)) (now (out .exit)) at r (itemLines (elementLines left (fixedIn (now (deck .entry)) schema (now (elements .entry))) (modelOf (now (model .entry)))) (fixedIn (now (deck .entry)) schema (now (elements .entry))) (suc (depthOf (fixedIn (now (deck .entry)) schema (now (elements .entry))) e)) (listOf (modelOf (now (model .entry))) e))) ⌝ }
+{
+    let depth = element_depth(elements, Element(e)) + 1;
+    let n = list_length(model, Element(e));
+    let mut k = at;
+    let mut i: usize = 0;
+    while i < n {
+        let a = item_at(model, Element(e), i);
+        k = append_item(deck, elements, model, out, k, a, depth, left);
+        i += 1;
+    }
+    k
+}
+
+fn append_item(
+    deck: &[u8],
+    elements: &[u64],
+    model: &[u64],
+    out: &mut [u8],
+    at: usize,
+    a: Item,
+    depth: u64,
+    left: u64,
+) -> usize
+    requires { ⌜ Readable (now deck) (now elements) (now model) ⌝ }
+    requires { ⌜ ItemIn (now elements) (now model) (itemIs a) ⌝ }
+    requires { ⌜ at ≤ length (now out) ⌝ }
+    ensures { λ r. ⌜ ((schema : List ℕ) → Appends (now (out .entry)) (now (out .exit)) at r (itemLines (elementLines left (fixedIn (now (deck .entry)) schema (now (elements .entry))) (modelOf (now (model .entry)))) (fixedIn (now (deck .entry)) schema (now (elements .entry))) depth (itemIs a ∷ []))) ⌝ }
+{
+    match a {
+        Item::Child(x) => {
+            let e = x.0;
+            append_element(deck, elements, model, out, at, e, left)
+        }
+        Item::Text(t) => append_text_line(deck, elements, model, out, at, t, depth),
+    }
+}
+
+// All levels that a tree has: the largest depth and the root.
+const LEVELS: u64 = 32;
+
+fn append_model(deck: &[u8], elements: &[u64], model: &[u64], out: &mut [u8], at: usize) -> usize
+    requires { ⌜ Readable (now deck) (now elements) (now model) ⌝ }
+    requires { ⌜ 0 < countOf (modelOf (now model)) ⌝ }
+    requires { ⌜ at ≤ length (now out) ⌝ }
+    ensures { λ r. ⌜ ((schema : List ℕ) → Appends (now (out .entry)) (now (out .exit)) at r (modelLines (fixedIn (now (deck .entry)) schema (now (elements .entry))) (modelOf (now (model .entry))))) ⌝ }
+{
+    append_element(deck, elements, model, out, at, 0, LEVELS)
+}
+
+// The waiting tree t.
+fn append_tree(
+    deck: &[u8],
+    elements: &[u64],
+    model: &[u64],
+    out: &mut [u8],
+    at: usize,
+    t: usize,
+) -> usize
+    requires { ⌜ Readable (now deck) (now elements) (now model) ⌝ }
+    requires { ⌜ t < length (elementsOf (now elements) .trees) ⌝ }
+    requires { ⌜ at ≤ length (now out) ⌝ }
+    ensures { λ r. ⌜ ((schema : List ℕ) → Appends (now (out .entry)) (now (out .exit)) at r (treeLines (fixedIn (now (deck .entry)) schema (now (elements .entry))) (modelOf (now (model .entry))) (getD (elementsOf (now (elements .entry)) .trees) t noTree))) ⌝ }
+{
+    let f = tree_file(elements, t);
+    let root = tree_root(elements, t);
+    let e = root.0;
+    let k = append_bytes(out, at, b"B,");
+    let l = append_number(out, k, f.0, 10, b'\n');
+    append_element(deck, elements, model, out, l, e, LEVELS)
+}
+
+fn append_waiting(deck: &[u8], elements: &[u64], model: &[u64], out: &mut [u8], at: usize) -> usize
+    requires { ⌜ Readable (now deck) (now elements) (now model) ⌝ }
+    requires { ⌜ at ≤ length (now out) ⌝ }
+    ensures { λ r. ⌜ ((schema : List ℕ) → Appends (now (out .entry)) (now (out .exit)) at r (waitingLines (fixedIn (now (deck .entry)) schema (now (elements .entry))) (modelOf (now (model .entry))) (elementsOf (now (elements .entry)) .trees))) ⌝ }
+{
+    let n = tree_count(elements);
+    let mut k = at;
+    let mut t: usize = 0;
+    while t < n {
+        k = append_tree(deck, elements, model, out, k, t);
+        t += 1;
+    }
+    k
+}
+
+pub fn append_trees(
+    deck: &[u8],
+    elements: &[u64],
+    model: &[u64],
+    out: &mut [u8],
+    at: usize,
+) -> usize
+    requires { ⌜ Readable (now deck) (now elements) (now model) ⌝ }
+    requires { ⌜ 0 < countOf (modelOf (now model)) ⌝ }
+    requires { ⌜ at ≤ length (now out) ⌝ }
+    ensures { λ r. ⌜ ((schema : List ℕ) → Appends (now (out .entry)) (now (out .exit)) at r (treesLines (fixedIn (now (deck .entry)) schema (now (elements .entry))) (modelOf (now (model .entry))))) ⌝ }
+{
+    let k = append_bytes(out, at, b"M\n");
+    let l = append_model(deck, elements, model, out, k);
+    append_waiting(deck, elements, model, out, l)
+}
