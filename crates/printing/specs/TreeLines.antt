@@ -12,8 +12,8 @@ use Rattle.tables.specs.ElementsTable.{elementsOf, GoodElements, noTree}
 use Rattle.tables.specs.ModelTable.{countOf, modelOf, GoodModel}
 use Rattle.table_test.specs.ElementsTest.{TextIn}
 use Rattle.state_test.specs.StateTest.{lentTablesPass, fixedIn}
-use Rattle.merge.specs.DeckLines.{treesLines}
-use Rattle.merge.specs.Program.{kindOfText, valueOfText}
+use Rattle.merge_rules.specs.DeckLines.{treesLines}
+use Rattle.merge_rules.specs.Program.{kindOfText, valueOfText}
 use Rattle.printing.specs.declared.print.Printed.{Printed}
 use Rattle.printing.specs.declared.print.Printed.the-variants.{Bytes, Refused}
 

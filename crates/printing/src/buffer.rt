@@ -3,7 +3,7 @@ ghost use mathlib.Core.List.{[], _∷_, _++_};
 ghost use mathlib.Core.Path.{_≡_};
 ghost use Prim.Native.Nat.{suc, _<_, _≤_};
 ghost use lib.ListN.{length};
-ghost use Rattle.merge.specs.Program.{digitByte, digitsBefore};
+ghost use Rattle.merge_rules.specs.Program.{digitByte, digitsBefore};
 ghost use Rattle.printing.specs.Buffers.{Appends};
 
 pub fn append_byte(out: &mut [u8], at: usize, b: u8) -> usize

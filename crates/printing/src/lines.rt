@@ -18,7 +18,7 @@ ghost use Rattle.tables.specs.Texts.{bytesAt, textFrom};
 ghost use Rattle.tables.specs.ElementsTable.{elementsOf};
 ghost use Rattle.tables.specs.ModelTable.{countOf, modelOf};
 ghost use Rattle.state_test.specs.StateTest.{fixedIn};
-ghost use Rattle.merge.specs.Program.{digitsBefore, decimalOf, hexadecimalOf, lineOf, textLine, elementLine};
+ghost use Rattle.merge_rules.specs.Program.{digitsBefore, decimalOf, hexadecimalOf, lineOf, textLine, elementLine};
 ghost use Rattle.printing.specs.Buffers.{Appends};
 ghost use Rattle.printing.specs.TreeLines.{valueEnd, Readable};
 

@@ -19,9 +19,9 @@ ghost use Rattle.tables.specs.Records.{Item, listOf, depthOf};
 ghost use Rattle.tables.specs.ElementsTable.{elementsOf, noTree};
 ghost use Rattle.tables.specs.ModelTable.{countOf, modelOf, itemIs};
 ghost use Rattle.state_test.specs.StateTest.{fixedIn};
-ghost use Rattle.merge.specs.Program.{itemLines, elementLines, modelLines};
+ghost use Rattle.merge_rules.specs.Program.{itemLines, elementLines, modelLines};
 ghost use Rattle.printing.specs.Buffers.{Appends};
-ghost use Rattle.merge.specs.DeckLines.{treeLines, waitingLines, treesLines};
+ghost use Rattle.merge_rules.specs.DeckLines.{treeLines, waitingLines, treesLines};
 ghost use Rattle.printing.specs.TreeLines.{Readable, ItemIn};
 
 // At most `left` levels of elements are printed.

@@ -7,7 +7,7 @@ use native.Mathlib.Nat.{div-lt-iff-lt-mul, not-suc-le-zero}
 use native.Mathlib.Omega.{arith}
 use borrow.Author.Tests.{lt-ltb, le-ltb, ltb-false}
 use lib.Dec.{ltb}
-use Rattle.merge.specs.Program.{digitByte, digitsBefore}
+use Rattle.merge_rules.specs.Program.{digitByte, digitsBefore}
 
 pub div-less : (n radix : ℕ) → 1 < radix → radix ≤ n → n / radix < n
 div-less n radix h k = div-lt-iff-lt-mul {k = radix} {x = n} {y = n} (omega arith) .1 (more n radix h (omega arith))

@@ -10,7 +10,7 @@ use Rattle.tables.specs.Records.{Place, Text, enumNumber, string, wholeNumber, 
 use Rattle.tables.specs.Texts.{bytesAt, textKind, textValue, textFrom}
 use Rattle.tables.specs.ElementsTable.{elementsOf, TextFits}
 use Rattle.table_test.specs.ElementsTest.{TextIn}
-use Rattle.merge.specs.Program.{digitsBefore, decimalOf, hexadecimalOf, lineOf, kindOfText, valueOfText, textLine, elementLine}
+use Rattle.merge_rules.specs.Program.{digitsBefore, decimalOf, hexadecimalOf, lineOf, kindOfText, valueOfText, textLine, elementLine}
 use Rattle.tables.proofs.Laws.ElementsTable.{text-back}
 use Rattle.tables.proofs.Laws.Cells.{each-getD}
 use Rattle.printing.specs.TreeLines.{valueEnd, Readable}

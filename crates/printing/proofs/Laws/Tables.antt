@@ -24,7 +24,7 @@ use Rattle.state_test.proofs.Laws.Files.{no-root-set, files-stop-1}
 use Rattle.printing.specs.declared.print.Printed.{Printed}
 use Rattle.printing.specs.declared.print.Printed.the-variants.{Bytes, Refused}
 use Rattle.printing.specs.Buffers.{Appends}
-use Rattle.merge.specs.DeckLines.{treesLines}
+use Rattle.merge_rules.specs.DeckLines.{treesLines}
 use Rattle.printing.specs.TreeLines.{Readable, printedIs, countIs, printsTrees, Prints}
 
 -- every item of a list is in the range of what it names

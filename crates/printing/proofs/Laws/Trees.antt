@@ -13,10 +13,10 @@ use Rattle.tables.specs.ModelTable.{countOf, modelOf, itemIs, ItemBelow}
 use Rattle.tables.specs.declared.numbers.Element as numbers
 use Rattle.tables.specs.declared.model.Item as program
 use Rattle.tables.specs.declared.model.Item.the-variants.{Child, Text}
-use Rattle.merge.specs.Program.{digitsBefore, decimalOf, lineOf, textLine, elementLine, itemLines, elementLines, modelLines}
+use Rattle.merge_rules.specs.Program.{digitsBefore, decimalOf, lineOf, textLine, elementLine, itemLines, elementLines, modelLines}
 use Rattle.tables.proofs.Laws.ModelTable.{item-below}
 use Rattle.printing.specs.Buffers.{Appends}
-use Rattle.merge.specs.DeckLines.{treeLines, waitingLines, treesLines}
+use Rattle.merge_rules.specs.DeckLines.{treeLines, waitingLines, treesLines}
 use Rattle.printing.specs.TreeLines.{Readable, ItemIn}
 use Rattle.printing.proofs.Laws.Buffers.{reads, Leaves, turn, rests, finish}
 

@@ -7,9 +7,6 @@ use Rattle.deck.proofs.fields.digit.Reads as reads
 use Rattle.deck.proofs.fields.digit.Lts as lts
 use Rattle.deck.proofs.fields.wide.Reads as wide-reads
 
-wide-requires : tie.Need-wide-requires
-wide-requires c κs = search needs
-
 returns : tie.Need-returns
 returns c = omega (arith, digit-below (c .before .before .args .b) (omega arith))
 
@@ -19,9 +16,6 @@ returns-2 c = omega (arith, digit-decimal (c .before .before .before .args .b) (
 returns-3 : tie.Need-returns-3
 returns-3 c = omega (arith, digit-between (c .before .before .before .before .args .b) (omega arith) (omega arith))
 
-add-result : tie.Need-add-result
-add-result c = search needs
-
 returns-4 : tie.Need-returns-4
 returns-4 c = omega (arith, digit-letter (c .before .before .before .before .before .args .b) (omega arith) (omega arith))
 
@@ -30,4 +24,4 @@ returns-5 c = omega (arith, digit-above (c .before .before .before .before .befo
 
 pub digit-spec : {M : Type 1} → statement M
 digit-spec =
-    tie.close (tie.spec wide-requires returns returns-2 returns-3 add-result returns-4 returns-5)
+    tie.close (tie.spec (λ c κs. search needs) returns returns-2 returns-3 (λ c. search needs) returns-4 returns-5)

@@ -17,17 +17,8 @@ abbrev μ-loop : tie.MeasureT-loop
 loop-holds : tie.Need-loop-holds Inv-loop μ-loop
 loop-holds c = record { past = omega arith; within = omega arith; is = refl }
 
-shared-slice-read-if1 : tie.Need-shared-slice-read-if1 Inv-loop μ-loop
-shared-slice-read-if1 c = search needs
-
 returns : tie.Need-returns Inv-loop μ-loop
 returns c = record { past = omega arith; within = omega arith; is = omega (arith, reach-here (c .before .before .before .before .args .s .now) (c .before .before .before .before .args .separator) (c .before .before .before .loop .i) (c .before .before .before .before .args .end) (omega arith) (omega arith) (c .if1 .taken)) }
-
-add-i : tie.Need-add-i Inv-loop μ-loop
-add-i c = search needs
-
-loop-less : tie.Need-loop-less Inv-loop μ-loop
-loop-less c = search needs
 
 loop-again : tie.Need-loop-again Inv-loop μ-loop
 loop-again c = record { past = omega arith; within = omega arith; is = omega (arith, reach-on (c .before .before .before .before .args .s .now) (c .before .before .before .before .args .separator) (c .before .before .before .loop .i) (c .before .before .before .before .args .end) (omega arith) (omega arith) (c .if1 .left)) }
@@ -42,9 +33,9 @@ find-byte-spec =
     Inv-loop
     μ-loop
     loop-holds
-    shared-slice-read-if1
+    (λ c. search needs)
     returns
-    add-i
-    loop-less
+    (λ c. search needs)
+    (λ c. search needs)
     loop-again
     returns-2)

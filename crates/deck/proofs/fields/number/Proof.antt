@@ -19,21 +19,12 @@ Inv-loop s radix most value₀ i₀ value i = Reading radix most s value i
 abbrev μ-loop : tie.MeasureT-loop
 μ-loop s radix most value₀ i₀ value i = length s - i
 
-plain-requires : tie.Need-plain-requires Inv-loop μ-loop
-plain-requires c κs = search needs
-
 returns : tie.Need-returns Inv-loop μ-loop
 unfolding numIs
 returns c = sym (number-none (c .before .before .before .args .radix) (c .before .before .before .args .most) (c .before .before .before .args .s .now) (sym (c .before .plain .ensures) ∙ not-true _ (c .if1 .taken)))
 
 loop-holds : tie.Need-loop-holds Inv-loop μ-loop
 loop-holds c = record { place = search needs; small = search needs; left = number-plain (c .before .before .before .args .radix) (c .before .before .before .args .most) (c .before .before .before .args .s .now) (sym (c .before .plain .ensures) ∙ not-false _ (c .if1 .left)) }
-
-shared-slice-read-digit : tie.Need-shared-slice-read-digit Inv-loop μ-loop
-shared-slice-read-digit c = search needs
-
-digit-requires : tie.Need-digit-requires Inv-loop μ-loop
-digit-requires c κs = search needs
 
 returns-2 : tie.Need-returns-2 Inv-loop μ-loop
 unfolding numIs
@@ -42,9 +33,6 @@ returns-2 c = sym (c .before .before .before .before .loop .inv .left ∙ rest-b
 returns-3 : tie.Need-returns-3 Inv-loop μ-loop
 unfolding numIs
 returns-3 c = sym (c .before .before .before .before .before .loop .inv .left ∙ rest-past (c .before .before .before .before .before .before .before .before .before .args .radix) (c .before .before .before .before .before .before .before .before .before .args .most) (c .before .before .before .before .before .loop .value) (c .before .before .before .before .before .before .before .before .before .args .s .now) (c .before .before .before .before .before .loop .i) (omega arith) (c .before .before .before .before .loop-test .taken) (omega arith) (omega arith))
-
-div-if4 : tie.Need-div-if4 Inv-loop μ-loop
-div-if4 c = search needs
 
 returns-4 : tie.Need-returns-4 Inv-loop μ-loop
 unfolding numIs
@@ -55,12 +43,6 @@ mul-value c = record { fits = omega (arith, within (c .before .before .before .b
 
 add-value : tie.Need-add-value Inv-loop μ-loop
 add-value c = record { fits = omega (arith, within (c .before .before .before .before .before .before .before .before .before .before .args .radix) (c .before .before .before .before .before .before .before .before .before .before .args .most) (c .before .before .before .before .before .before .loop .value) (c .before .before .before .digit .result) (omega arith) (omega arith) (omega arith)) }
-
-add-i : tie.Need-add-i Inv-loop μ-loop
-add-i c = search needs
-
-loop-less : tie.Need-loop-less Inv-loop μ-loop
-loop-less c = search needs
 
 loop-again : tie.Need-loop-again Inv-loop μ-loop
 loop-again c = record { place = search needs; small = within (c .before .before .before .before .before .before .before .before .before .before .args .radix) (c .before .before .before .before .before .before .before .before .before .before .args .most) (c .before .before .before .before .before .before .loop .value) (c .before .before .before .digit .result) (omega arith) (omega arith) (omega arith); left = rw (c .before .before .before .digit .ensures) (c .before .before .before .before .before .before .loop .inv .left ∙ rest-more (c .before .before .before .before .before .before .before .before .before .before .args .radix) (c .before .before .before .before .before .before .before .before .before .before .args .most) (c .before .before .before .before .before .before .loop .value) (c .before .before .before .before .before .before .before .before .before .before .args .s .now) (c .before .before .before .before .before .before .loop .i) (c .before .before .before .before .before .loop-test .taken) (omega arith)) }
@@ -75,18 +57,18 @@ number-spec =
     (tie.spec
     Inv-loop
     μ-loop
-    plain-requires
+    (λ c κs. search needs)
     returns
     loop-holds
-    shared-slice-read-digit
-    digit-requires
+    (λ c. search needs)
+    (λ c κs. search needs)
     returns-2
     returns-3
-    div-if4
+    (λ c. search needs)
     returns-4
     mul-value
     add-value
-    add-i
-    loop-less
+    (λ c. search needs)
+    (λ c. search needs)
     loop-again
     returns-5)

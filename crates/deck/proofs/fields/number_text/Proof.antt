@@ -7,12 +7,6 @@ use Rattle.deck.proofs.fields.number_text.Tie as tie
 use Rattle.deck.proofs.fields.number_text.Reads as reads
 use Rattle.deck.proofs.fields.number_text.Lts as lts
 
-enum-known-n : tie.Need-enum-known-n
-enum-known-n c = search needs
-
-enum-told : tie.Need-enum-told
-enum-told c = search needs
-
 returns : tie.Need-returns
 unfolding textIs numIs bind
 returns c = record { is = rw (c .before .n .given .1); fits = omega arith }
@@ -22,4 +16,4 @@ unfolding textIs numIs bind
 returns-2 c = record { is = rw (c .enum-told .given .1); fits = tt }
 
 pub number-text-spec : {M : Type 1} → statement M
-number-text-spec = tie.close (tie.spec enum-known-n enum-told returns returns-2)
+number-text-spec = tie.close (tie.spec (λ c. search needs) (λ c. search needs) returns returns-2)

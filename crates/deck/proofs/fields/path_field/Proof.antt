@@ -25,27 +25,6 @@ loop-holds : tie.Need-loop-holds Inv-loop μ-loop
 unfolding front
 loop-holds c = path-start (c .before .args .deck .now) (c .before .args .start) (c .before .args .end) (c .before .args .most) _ refl (omega arith)
 
-find-byte-requires : tie.Need-find-byte-requires Inv-loop μ-loop
-find-byte-requires c κs = search needs
-
-sub-number : tie.Need-sub-number Inv-loop μ-loop
-sub-number c = search needs
-
-part-number-start : tie.Need-part-number-start Inv-loop μ-loop
-part-number-start c = search needs
-
-part-number-end : tie.Need-part-number-end Inv-loop μ-loop
-part-number-end c = search needs
-
-number-requires : tie.Need-number-requires Inv-loop μ-loop
-number-requires c κs = search needs
-
-enum-known-v : tie.Need-enum-known-v Inv-loop μ-loop
-enum-known-v c = search needs
-
-enum-told : tie.Need-enum-told Inv-loop μ-loop
-enum-told c = search needs
-
 returns : tie.Need-returns Inv-loop μ-loop
 unfolding pathIs numIs
 returns c = record { is = sym (path-bad (c .before .before .before .before .before .before .before .before .args .deck .now) (c .before .before .before .before .before .before .before .before .args .start) (c .before .before .before .before .before .before .before .before .args .end) (c .before .before .before .before .before .before .before .before .args .most) (c .before .before .before .before .before .before .loop .p) (c .before .before .before .before .before .before .loop .n) (c .before .before .before .before .before .before .loop .at) (c .before .before .before .before .find-byte .result) (omega arith) (c .before .before .before .before .before .before .loop .inv) (omega arith) (c .before .before .before .before .find-byte .ensures) (sym (c .before .before .number .ensures) ∙ ap numIs (c .enum-told .given .1))); fits = tt }
@@ -54,18 +33,9 @@ with-part-requires : tie.Need-with-part-requires Inv-loop μ-loop
 unfolding numIs
 with-part-requires c κs = (c .before .before .before .before .before .before .before .loop .inv .size, omega arith, omega (arith, number-most 10 255 (whole (between (c .before .before .before .before .before .before .before .before .before .args .deck .now) (c .before .before .before .before .before .before .before .loop .at) (c .before .before .before .before .before .find-byte .result))) (c .before .v .given .0 .0) (sym (c .before .before .before .number .ensures) ∙ ap numIs (c .before .v .given .1))))
 
-add-n : tie.Need-add-n Inv-loop μ-loop
-add-n c = search needs
-
 returns-2 : tie.Need-returns-2 Inv-loop μ-loop
 unfolding pathIs numIs
 returns-2 c = record { is = sym (path-last (c .before .before .before .before .before .before .before .before .before .before .before .args .deck .now) (c .before .before .before .before .before .before .before .before .before .before .before .args .start) (c .before .before .before .before .before .before .before .before .before .before .before .args .end) (c .before .before .before .before .before .before .before .before .before .before .before .args .most) (c .before .before .before .before .before .before .before .before .before .loop .p) (c .before .before .before .before .before .before .before .before .before .loop .n) (c .before .before .before .before .before .before .before .before .before .loop .at) (c .before .before .before .before .before .before .before .find-byte .result) (omega arith) (c .before .before .before .before .before .before .before .before .before .loop .inv) (omega arith) (c .before .before .before .before .before .before .before .find-byte .ensures) (c .before .before .before .v .given .0 .0) (sym (c .before .before .before .before .before .number .ensures) ∙ ap numIs (c .before .before .before .v .given .1)) (c .before .with-part .result) (c .before .with-part .ensures .is) (c .if1 .taken)); fits = c .before .with-part .ensures .fits }
-
-add-at : tie.Need-add-at Inv-loop μ-loop
-add-at c = search needs
-
-loop-less : tie.Need-loop-less Inv-loop μ-loop
-loop-less c = search needs
 
 loop-again : tie.Need-loop-again Inv-loop μ-loop
 unfolding numIs
@@ -82,18 +52,18 @@ path-field-spec =
     Inv-loop
     μ-loop
     loop-holds
-    find-byte-requires
-    sub-number
-    part-number-start
-    part-number-end
-    number-requires
-    enum-known-v
-    enum-told
+    (λ c κs. search needs)
+    (λ c. search needs)
+    (λ c. search needs)
+    (λ c. search needs)
+    (λ c κs. search needs)
+    (λ c. search needs)
+    (λ c. search needs)
     returns
     with-part-requires
-    add-n
+    (λ c. search needs)
     returns-2
-    add-at
-    loop-less
+    (λ c. search needs)
+    (λ c. search needs)
     loop-again
     returns-3)

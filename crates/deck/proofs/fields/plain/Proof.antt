@@ -12,9 +12,6 @@ returns c = sym (plain-empty (c .before .args .s .now) (c .if1 .taken))
 returns-2 : tie.Need-returns-2
 returns-2 c = sym (plain-one (c .before .before .args .s .now) (c .if2 .taken))
 
-shared-slice-read-if3 : tie.Need-shared-slice-read-if3
-shared-slice-read-if3 c = search needs
-
 returns-3 : tie.Need-returns-3
 returns-3 c = sym (plain-zero (c .before .before .before .before .args .s .now) (c .before .before .before .if1 .left) (c .before .before .if2 .left) (c .if3 .taken))
 
@@ -22,4 +19,4 @@ returns-4 : tie.Need-returns-4
 returns-4 c = sym (plain-other (c .before .before .before .before .args .s .now) (c .before .before .before .if1 .left) (c .before .before .if2 .left) (c .if3 .left))
 
 pub plain-spec : {M : Type 1} → statement M
-plain-spec = tie.close (tie.spec returns returns-2 shared-slice-read-if3 returns-3 returns-4)
+plain-spec = tie.close (tie.spec returns returns-2 (λ c. search needs) returns-3 returns-4)

@@ -13,54 +13,6 @@ use Rattle.deck.proofs.fields.number.Reads as number-reads
 use Rattle.deck.proofs.fields.number_text.Reads as number-text-reads
 use Rattle.deck.proofs.fields.string_text.Reads as string-text-reads
 
-sub-number : tie.Need-sub-number
-sub-number c = search needs
-
-part-number-start : tie.Need-part-number-start
-part-number-start c = search needs
-
-part-number-end : tie.Need-part-number-end
-part-number-end c = search needs
-
-number-requires : tie.Need-number-requires
-number-requires c κs = search needs
-
-number-text-requires : tie.Need-number-text-requires
-number-text-requires c κs = search needs
-
-string-text-requires : tie.Need-string-text-requires
-string-text-requires c κs = search needs
-
-sub-number-2 : tie.Need-sub-number-2
-sub-number-2 c = search needs
-
-part-number-start-2 : tie.Need-part-number-start-2
-part-number-start-2 c = search needs
-
-part-number-end-2 : tie.Need-part-number-end-2
-part-number-end-2 c = search needs
-
-number-requires-2 : tie.Need-number-requires-2
-number-requires-2 c κs = search needs
-
-number-text-requires-2 : tie.Need-number-text-requires-2
-number-text-requires-2 c κs = search needs
-
-sub-number-3 : tie.Need-sub-number-3
-sub-number-3 c = search needs
-
-part-number-start-3 : tie.Need-part-number-start-3
-part-number-start-3 c = search needs
-
-part-number-end-3 : tie.Need-part-number-end-3
-part-number-end-3 c = search needs
-
-number-requires-3 : tie.Need-number-requires-3
-number-requires-3 c κs = search needs
-
-number-text-requires-3 : tie.Need-number-text-requires-3
-number-text-requires-3 c κs = search needs
-
 returns : tie.Need-returns
 returns c = record { is = c .number-text .ensures .is ∙ ap (λ (o : Option ℕ). bind o (λ v. some (textFrom 0 v))) (c .before .number .ensures) ∙ rw (c .before .before .before .match .keys1) (letter-e (c .before .before .before .before .before .args .deck .now) (c .before .before .before .before .before .args .start) (c .before .before .before .before .before .args .end)); fits = c .number-text .ensures .fits }
 
@@ -81,22 +33,22 @@ pub text-field-spec : {M : Type 1} → statement M
 text-field-spec =
     tie.close
     (tie.spec
-    sub-number
-    part-number-start
-    part-number-end
-    number-requires
-    number-text-requires
-    string-text-requires
-    sub-number-2
-    part-number-start-2
-    part-number-end-2
-    number-requires-2
-    number-text-requires-2
-    sub-number-3
-    part-number-start-3
-    part-number-end-3
-    number-requires-3
-    number-text-requires-3
+    (λ c. search needs)
+    (λ c. search needs)
+    (λ c. search needs)
+    (λ c κs. search needs)
+    (λ c κs. search needs)
+    (λ c κs. search needs)
+    (λ c. search needs)
+    (λ c. search needs)
+    (λ c. search needs)
+    (λ c κs. search needs)
+    (λ c κs. search needs)
+    (λ c. search needs)
+    (λ c. search needs)
+    (λ c. search needs)
+    (λ c κs. search needs)
+    (λ c κs. search needs)
     returns
     returns-2
     returns-3

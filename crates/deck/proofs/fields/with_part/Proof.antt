@@ -6,18 +6,6 @@ use Rattle.deck.proofs.fields.with_part.Tie as tie
 use Rattle.deck.proofs.fields.with_part.Reads as reads
 use Rattle.deck.proofs.fields.with_part.Lts as lts
 
-add-t5 : tie.Need-add-t5
-add-t5 c = search needs
-
-add-t6 : tie.Need-add-t6
-add-t6 c = search needs
-
-add-t7 : tie.Need-add-t7
-add-t7 c = search needs
-
-add-t8 : tie.Need-add-t8
-add-t8 c = search needs
-
 returns : tie.Need-returns
 returns c = put-0 (c .before .args .v) (c .before .args .p) (omega arith)
 
@@ -32,4 +20,4 @@ returns-4 c = put-3 (c .before .args .v) (c .before .args .p) (omega arith)
 
 pub with-part-spec : {M : Type 1} → statement M
 with-part-spec =
-    tie.close (tie.spec add-t5 add-t6 add-t7 add-t8 returns returns-2 returns-3 returns-4)
+    tie.close (tie.spec (λ c. search needs) (λ c. search needs) (λ c. search needs) (λ c. search needs) returns returns-2 returns-3 returns-4)

@@ -12,17 +12,11 @@ use Rattle.deck.proofs.lines.letter_at.Lts as lts
 use Rattle.deck.proofs.fields.wide.Reads as wide-reads
 use Rattle.deck.proofs.lines.places.Reads as places-reads
 
-places-requires : tie.Need-places-requires
-places-requires c κs = search needs
-
 sub-if1 : tie.Need-sub-if1
 sub-if1 c = omega (arith, (c .places .ensures (c .before .before .args .deck .now) (c .before .before .pre)) .ordered, (c .places .ensures (c .before .before .args .deck .now) (c .before .before .pre)) .within)
 
 shared-slice-read-wide : tie.Need-shared-slice-read-wide
 shared-slice-read-wide c = omega (arith, (c .before .before .places .ensures (c .before .before .before .before .args .deck .now) (c .before .before .before .before .pre)) .within, (c .before .before .places .ensures (c .before .before .before .before .args .deck .now) (c .before .before .before .before .pre)) .ordered, c .before .if1 .taken)
-
-wide-requires : tie.Need-wide-requires
-wide-requires c κs = search needs
 
 returns : tie.Need-returns
 unfolding numIs
@@ -35,4 +29,4 @@ returns-2 c = sym (letter-not (c .before .before .before .args .deck .now) (c .b
 pub letter-at-spec : {M : Type 1} → statement M
 letter-at-spec =
     tie.close
-    (tie.spec places-requires sub-if1 shared-slice-read-wide wide-requires returns returns-2)
+    (tie.spec (λ c κs. search needs) sub-if1 shared-slice-read-wide (λ c κs. search needs) returns returns-2)

@@ -12,15 +12,6 @@ use Rattle.deck.proofs.lines.line_b.Reads as reads
 use Rattle.deck.proofs.lines.line_b.Lts as lts
 use Rattle.deck.proofs.lines.number_at.Reads as number-at-reads
 
-number-at-requires : tie.Need-number-at-requires
-number-at-requires c κs = search needs
-
-enum-known-file : tie.Need-enum-known-file
-enum-known-file c = search needs
-
-enum-told : tie.Need-enum-told
-enum-told c = search needs
-
 returns : tie.Need-returns
 unfolding lineIs numIs bind only lineB fileField decimal
 returns c = record { is = rw (← c .before .before .number-at .ensures, c .enum-told .given .1); fits = tt }
@@ -35,4 +26,4 @@ returns-3 c = record { is = rw (← c .before .before .before .before .before .n
 
 pub line-b-spec : {M : Type 1} → statement M
 line-b-spec =
-    tie.close (tie.spec number-at-requires enum-known-file enum-told returns returns-2 returns-3)
+    tie.close (tie.spec (λ c κs. search needs) (λ c. search needs) (λ c. search needs) returns returns-2 returns-3)

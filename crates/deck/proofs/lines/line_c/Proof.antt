@@ -13,27 +13,9 @@ use Rattle.deck.proofs.lines.line_c.Lts as lts
 use Rattle.deck.proofs.lines.number_at.Reads as number-at-reads
 use Rattle.deck.proofs.lines.text_at.Reads as text-at-reads
 
-number-at-requires : tie.Need-number-at-requires
-number-at-requires c κs = search needs
-
-enum-known-depth : tie.Need-enum-known-depth
-enum-known-depth c = search needs
-
-enum-told : tie.Need-enum-told
-enum-told c = search needs
-
 returns : tie.Need-returns
 unfolding lineIs numIs textIs bind only lineC depthField decimal
 returns c = record { is = rw (← c .before .before .number-at .ensures, c .enum-told .given .1); fits = tt }
-
-text-at-requires : tie.Need-text-at-requires
-text-at-requires c κs = search needs
-
-enum-known-kind : tie.Need-enum-known-kind
-enum-known-kind c = search needs
-
-enum-told-2 : tie.Need-enum-told-2
-enum-told-2 c = search needs
 
 returns-2 : tie.Need-returns-2
 unfolding lineIs numIs textIs bind only lineC depthField decimal
@@ -51,13 +33,13 @@ pub line-c-spec : {M : Type 1} → statement M
 line-c-spec =
     tie.close
     (tie.spec
-    number-at-requires
-    enum-known-depth
-    enum-told
+    (λ c κs. search needs)
+    (λ c. search needs)
+    (λ c. search needs)
     returns
-    text-at-requires
-    enum-known-kind
-    enum-told-2
+    (λ c κs. search needs)
+    (λ c. search needs)
+    (λ c. search needs)
     returns-2
     returns-3
     returns-4)

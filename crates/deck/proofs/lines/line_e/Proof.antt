@@ -12,40 +12,13 @@ use Rattle.deck.proofs.lines.line_e.Reads as reads
 use Rattle.deck.proofs.lines.line_e.Lts as lts
 use Rattle.deck.proofs.lines.number_at.Reads as number-at-reads
 
-number-at-requires : tie.Need-number-at-requires
-number-at-requires c κs = search needs
-
-enum-known-depth : tie.Need-enum-known-depth
-enum-known-depth c = search needs
-
-enum-told : tie.Need-enum-told
-enum-told c = search needs
-
 returns : tie.Need-returns
 unfolding lineIs numIs bind only lineE depthField nameField setField decimal hexadecimal
 returns c = record { is = rw (← c .before .before .number-at .ensures, c .enum-told .given .1); fits = tt }
 
-number-at-requires-2 : tie.Need-number-at-requires-2
-number-at-requires-2 c κs = search needs
-
-enum-known-name : tie.Need-enum-known-name
-enum-known-name c = search needs
-
-enum-told-2 : tie.Need-enum-told-2
-enum-told-2 c = search needs
-
 returns-2 : tie.Need-returns-2
 unfolding lineIs numIs bind only lineE depthField nameField setField decimal hexadecimal
 returns-2 c = record { is = rw (← c .before .before .before .before .before .before .number-at .ensures, c .before .before .before .before .depth .given .1, ← c .before .before .number-at2 .ensures, c .enum-told2 .given .1); fits = tt }
-
-number-at-requires-3 : tie.Need-number-at-requires-3
-number-at-requires-3 c κs = search needs
-
-enum-known-set : tie.Need-enum-known-set
-enum-known-set c = search needs
-
-enum-told-3 : tie.Need-enum-told-3
-enum-told-3 c = search needs
 
 returns-3 : tie.Need-returns-3
 unfolding lineIs numIs bind only lineE depthField nameField setField decimal hexadecimal
@@ -63,17 +36,17 @@ pub line-e-spec : {M : Type 1} → statement M
 line-e-spec =
     tie.close
     (tie.spec
-    number-at-requires
-    enum-known-depth
-    enum-told
+    (λ c κs. search needs)
+    (λ c. search needs)
+    (λ c. search needs)
     returns
-    number-at-requires-2
-    enum-known-name
-    enum-told-2
+    (λ c κs. search needs)
+    (λ c. search needs)
+    (λ c. search needs)
     returns-2
-    number-at-requires-3
-    enum-known-set
-    enum-told-3
+    (λ c κs. search needs)
+    (λ c. search needs)
+    (λ c. search needs)
     returns-3
     returns-4
     returns-5)

@@ -12,27 +12,9 @@ use Rattle.deck.proofs.lines.line_f.Reads as reads
 use Rattle.deck.proofs.lines.line_f.Lts as lts
 use Rattle.deck.proofs.lines.number_at.Reads as number-at-reads
 
-number-at-requires : tie.Need-number-at-requires
-number-at-requires c κs = search needs
-
-enum-known-file : tie.Need-enum-known-file
-enum-known-file c = search needs
-
-enum-told : tie.Need-enum-told
-enum-told c = search needs
-
 returns : tie.Need-returns
 unfolding lineIs numIs bind only lineF fileField decimal
 returns c = record { is = rw (← c .before .before .number-at .ensures, c .enum-told .given .1); fits = tt }
-
-number-at-requires-2 : tie.Need-number-at-requires-2
-number-at-requires-2 c κs = search needs
-
-enum-known-version : tie.Need-enum-known-version
-enum-known-version c = search needs
-
-enum-told-2 : tie.Need-enum-told-2
-enum-told-2 c = search needs
 
 returns-2 : tie.Need-returns-2
 unfolding lineIs numIs bind only lineF fileField decimal
@@ -50,13 +32,13 @@ pub line-f-spec : {M : Type 1} → statement M
 line-f-spec =
     tie.close
     (tie.spec
-    number-at-requires
-    enum-known-file
-    enum-told
+    (λ c κs. search needs)
+    (λ c. search needs)
+    (λ c. search needs)
     returns
-    number-at-requires-2
-    enum-known-version
-    enum-told-2
+    (λ c κs. search needs)
+    (λ c. search needs)
+    (λ c. search needs)
     returns-2
     returns-3
     returns-4)

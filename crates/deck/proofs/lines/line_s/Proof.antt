@@ -13,79 +13,25 @@ use Rattle.deck.proofs.lines.line_s.Lts as lts
 use Rattle.deck.proofs.lines.number_at.Reads as number-at-reads
 use Rattle.deck.proofs.lines.path_at.Reads as path-at-reads
 
-number-at-requires : tie.Need-number-at-requires
-number-at-requires c κs = search needs
-
-enum-known-ty : tie.Need-enum-known-ty
-enum-known-ty c = search needs
-
-enum-told : tie.Need-enum-told
-enum-told c = search needs
-
 returns : tie.Need-returns
 unfolding lineIs numIs pathIs bind only lineS typeField nameField multField maskField decimal hexadecimal
 returns c = record { is = rw (← c .before .before .number-at .ensures, c .enum-told .given .1); fits = tt }
-
-path-at-requires : tie.Need-path-at-requires
-path-at-requires c κs = search needs
-
-enum-known-path : tie.Need-enum-known-path
-enum-known-path c = search needs
-
-enum-told-2 : tie.Need-enum-told-2
-enum-told-2 c = search needs
 
 returns-2 : tie.Need-returns-2
 unfolding lineIs numIs pathIs bind only lineS typeField nameField multField maskField decimal hexadecimal
 returns-2 c = record { is = rw (← c .before .before .before .before .before .before .number-at .ensures, c .before .before .before .before .ty .given .1, ← c .before .before .path-at .ensures .is, c .enum-told2 .given .1); fits = tt }
 
-number-at-requires-2 : tie.Need-number-at-requires-2
-number-at-requires-2 c κs = search needs
-
-enum-known-name : tie.Need-enum-known-name
-enum-known-name c = search needs
-
-enum-told-3 : tie.Need-enum-told-3
-enum-told-3 c = search needs
-
 returns-3 : tie.Need-returns-3
 unfolding lineIs numIs pathIs bind only lineS typeField nameField multField maskField decimal hexadecimal
 returns-3 c = record { is = rw (← c .before .before .before .before .before .before .before .before .before .before .number-at .ensures, c .before .before .before .before .before .before .before .before .ty .given .1, ← c .before .before .before .before .before .before .path-at .ensures .is, c .before .before .before .before .path .given .1, ← c .before .before .number-at2 .ensures, c .enum-told3 .given .1); fits = tt }
-
-number-at-requires-3 : tie.Need-number-at-requires-3
-number-at-requires-3 c κs = search needs
-
-enum-known-child : tie.Need-enum-known-child
-enum-known-child c = search needs
-
-enum-told-4 : tie.Need-enum-told-4
-enum-told-4 c = search needs
 
 returns-4 : tie.Need-returns-4
 unfolding lineIs numIs pathIs bind only lineS typeField nameField multField maskField decimal hexadecimal
 returns-4 c = record { is = rw (← c .before .before .before .before .before .before .before .before .before .before .before .before .before .before .number-at .ensures, c .before .before .before .before .before .before .before .before .before .before .before .before .ty .given .1, ← c .before .before .before .before .before .before .before .before .before .before .path-at .ensures .is, c .before .before .before .before .before .before .before .before .path .given .1, ← c .before .before .before .before .before .before .number-at2 .ensures, c .before .before .before .before .name .given .1, ← c .before .before .number-at3 .ensures, c .enum-told4 .given .1); fits = tt }
 
-number-at-requires-4 : tie.Need-number-at-requires-4
-number-at-requires-4 c κs = search needs
-
-enum-known-mult : tie.Need-enum-known-mult
-enum-known-mult c = search needs
-
-enum-told-5 : tie.Need-enum-told-5
-enum-told-5 c = search needs
-
 returns-5 : tie.Need-returns-5
 unfolding lineIs numIs pathIs bind only lineS typeField nameField multField maskField decimal hexadecimal
 returns-5 c = record { is = rw (← c .before .before .before .before .before .before .before .before .before .before .before .before .before .before .before .before .before .before .number-at .ensures, c .before .before .before .before .before .before .before .before .before .before .before .before .before .before .before .before .ty .given .1, ← c .before .before .before .before .before .before .before .before .before .before .before .before .before .before .path-at .ensures .is, c .before .before .before .before .before .before .before .before .before .before .before .before .path .given .1, ← c .before .before .before .before .before .before .before .before .before .before .number-at2 .ensures, c .before .before .before .before .before .before .before .before .name .given .1, ← c .before .before .before .before .before .before .number-at3 .ensures, c .before .before .before .before .child .given .1, ← c .before .before .number-at4 .ensures, c .enum-told5 .given .1); fits = tt }
-
-number-at-requires-5 : tie.Need-number-at-requires-5
-number-at-requires-5 c κs = search needs
-
-enum-known-mask : tie.Need-enum-known-mask
-enum-known-mask c = search needs
-
-enum-told-6 : tie.Need-enum-told-6
-enum-told-6 c = search needs
 
 returns-6 : tie.Need-returns-6
 unfolding lineIs numIs pathIs bind only lineS typeField nameField multField maskField decimal hexadecimal
@@ -107,29 +53,29 @@ pub line-s-spec : {M : Type 1} → statement M
 line-s-spec =
     tie.close
     (tie.spec
-    number-at-requires
-    enum-known-ty
-    enum-told
+    (λ c κs. search needs)
+    (λ c. search needs)
+    (λ c. search needs)
     returns
-    path-at-requires
-    enum-known-path
-    enum-told-2
+    (λ c κs. search needs)
+    (λ c. search needs)
+    (λ c. search needs)
     returns-2
-    number-at-requires-2
-    enum-known-name
-    enum-told-3
+    (λ c κs. search needs)
+    (λ c. search needs)
+    (λ c. search needs)
     returns-3
-    number-at-requires-3
-    enum-known-child
-    enum-told-4
+    (λ c κs. search needs)
+    (λ c. search needs)
+    (λ c. search needs)
     returns-4
-    number-at-requires-4
-    enum-known-mult
-    enum-told-5
+    (λ c κs. search needs)
+    (λ c. search needs)
+    (λ c. search needs)
     returns-5
-    number-at-requires-5
-    enum-known-mask
-    enum-told-6
+    (λ c κs. search needs)
+    (λ c. search needs)
+    (λ c. search needs)
     returns-6
     returns-7
     returns-8

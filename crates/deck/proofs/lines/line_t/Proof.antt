@@ -12,53 +12,17 @@ use Rattle.deck.proofs.lines.line_t.Reads as reads
 use Rattle.deck.proofs.lines.line_t.Lts as lts
 use Rattle.deck.proofs.lines.number_at.Reads as number-at-reads
 
-number-at-requires : tie.Need-number-at-requires
-number-at-requires c κs = search needs
-
-enum-known-ty : tie.Need-enum-known-ty
-enum-known-ty c = search needs
-
-enum-told : tie.Need-enum-told
-enum-told c = search needs
-
 returns : tie.Need-returns
 unfolding lineIs numIs bind only lineT typeField modeField namedField maskField decimal hexadecimal
 returns c = record { is = rw (← c .before .before .number-at .ensures, c .enum-told .given .1); fits = tt }
-
-number-at-requires-2 : tie.Need-number-at-requires-2
-number-at-requires-2 c κs = search needs
-
-enum-known-mode : tie.Need-enum-known-mode
-enum-known-mode c = search needs
-
-enum-told-2 : tie.Need-enum-told-2
-enum-told-2 c = search needs
 
 returns-2 : tie.Need-returns-2
 unfolding lineIs numIs bind only lineT typeField modeField namedField maskField decimal hexadecimal
 returns-2 c = record { is = rw (← c .before .before .before .before .before .before .number-at .ensures, c .before .before .before .before .ty .given .1, ← c .before .before .number-at2 .ensures, c .enum-told2 .given .1); fits = tt }
 
-number-at-requires-3 : tie.Need-number-at-requires-3
-number-at-requires-3 c κs = search needs
-
-enum-known-named : tie.Need-enum-known-named
-enum-known-named c = search needs
-
-enum-told-3 : tie.Need-enum-told-3
-enum-told-3 c = search needs
-
 returns-3 : tie.Need-returns-3
 unfolding lineIs numIs bind only lineT typeField modeField namedField maskField decimal hexadecimal
 returns-3 c = record { is = rw (← c .before .before .before .before .before .before .before .before .before .before .number-at .ensures, c .before .before .before .before .before .before .before .before .ty .given .1, ← c .before .before .before .before .before .before .number-at2 .ensures, c .before .before .before .before .mode .given .1, ← c .before .before .number-at3 .ensures, c .enum-told3 .given .1); fits = tt }
-
-number-at-requires-4 : tie.Need-number-at-requires-4
-number-at-requires-4 c κs = search needs
-
-enum-known-split : tie.Need-enum-known-split
-enum-known-split c = search needs
-
-enum-told-4 : tie.Need-enum-told-4
-enum-told-4 c = search needs
 
 returns-4 : tie.Need-returns-4
 unfolding lineIs numIs bind only lineT typeField modeField namedField maskField decimal hexadecimal
@@ -76,21 +40,21 @@ pub line-t-spec : {M : Type 1} → statement M
 line-t-spec =
     tie.close
     (tie.spec
-    number-at-requires
-    enum-known-ty
-    enum-told
+    (λ c κs. search needs)
+    (λ c. search needs)
+    (λ c. search needs)
     returns
-    number-at-requires-2
-    enum-known-mode
-    enum-told-2
+    (λ c κs. search needs)
+    (λ c. search needs)
+    (λ c. search needs)
     returns-2
-    number-at-requires-3
-    enum-known-named
-    enum-told-3
+    (λ c κs. search needs)
+    (λ c. search needs)
+    (λ c. search needs)
     returns-3
-    number-at-requires-4
-    enum-known-split
-    enum-told-4
+    (λ c κs. search needs)
+    (λ c. search needs)
+    (λ c. search needs)
     returns-4
     returns-5
     returns-6)

@@ -11,9 +11,6 @@ use Rattle.deck.proofs.lines.number_at.Lts as lts
 use Rattle.deck.proofs.fields.number.Reads as number-reads
 use Rattle.deck.proofs.lines.places.Reads as places-reads
 
-places-requires : tie.Need-places-requires
-places-requires c κs = search needs
-
 sub-number : tie.Need-sub-number
 sub-number c = omega (arith, (c .places .ensures (c .before .before .args .deck .now) (c .before .before .pre .0)) .ordered, (c .places .ensures (c .before .before .args .deck .now) (c .before .before .pre .0)) .within)
 
@@ -23,13 +20,10 @@ part-number-start c = omega (arith, (c .places .ensures (c .before .before .args
 part-number-end : tie.Need-part-number-end
 part-number-end c = omega (arith, (c .places .ensures (c .before .before .args .deck .now) (c .before .before .pre .0)) .ordered, (c .places .ensures (c .before .before .args .deck .now) (c .before .before .pre .0)) .within)
 
-number-requires : tie.Need-number-requires
-number-requires c κs = search needs
-
 returns : tie.Need-returns
 returns c = c .number .ensures ∙ sym (number-bytes (c .before .before .before .before .args .radix) (c .before .before .before .before .args .most) (partAt (c .before .before .before .before .args .deck .now) (c .before .before .places .result .start) (c .before .before .places .result .end))) ∙ ap (number (c .before .before .before .before .args .radix) (c .before .before .before .before .args .most)) ((c .before .before .places .ensures (c .before .before .before .before .args .deck .now) (c .before .before .before .before .pre .0)) .is)
 
 pub number-at-spec : {M : Type 1} → statement M
 number-at-spec =
     tie.close
-    (tie.spec places-requires sub-number part-number-start part-number-end number-requires returns)
+    (tie.spec (λ c κs. search needs) sub-number part-number-start part-number-end (λ c κs. search needs) returns)

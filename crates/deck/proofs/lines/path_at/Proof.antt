@@ -9,9 +9,6 @@ use Rattle.deck.proofs.lines.path_at.Lts as lts
 use Rattle.deck.proofs.fields.path_field.Reads as path-field-reads
 use Rattle.deck.proofs.lines.places.Reads as places-reads
 
-places-requires : tie.Need-places-requires
-places-requires c κs = search needs
-
 path-field-requires : tie.Need-path-field-requires
 path-field-requires c κs = ((c .places .ensures (c .before .before .args .deck .now) (c .before .before .pre .0)) .ordered, (c .places .ensures (c .before .before .args .deck .now) (c .before .before .pre .0)) .within, omega arith)
 
@@ -19,4 +16,4 @@ returns : tie.Need-returns
 returns c = record { is = c .path-field .ensures .is ∙ ap (pathField (c .before .before .before .args .most)) ((c .before .places .ensures (c .before .before .before .args .deck .now) (c .before .before .before .pre .0)) .is); fits = c .path-field .ensures .fits }
 
 pub path-at-spec : {M : Type 1} → statement M
-path-at-spec = tie.close (tie.spec places-requires path-field-requires returns)
+path-at-spec = tie.close (tie.spec (λ c κs. search needs) path-field-requires returns)

@@ -6,18 +6,6 @@ use Rattle.deck.proofs.lines.places.Tie as tie
 use Rattle.deck.proofs.lines.places.Reads as reads
 use Rattle.deck.proofs.lines.places.Lts as lts
 
-mul-t7 : tie.Need-mul-t7
-mul-t7 c = search needs
-
-element-copy-out-t10 : tie.Need-element-copy-out-t10
-element-copy-out-t10 c = search needs
-
-mul-t11 : tie.Need-mul-t11
-mul-t11 c = search needs
-
-element-copy-out-t14 : tie.Need-element-copy-out-t14
-element-copy-out-t14 c = search needs
-
 returns : tie.Need-returns
 returns c = λ deck w. span-some deck (c .before .before .before .args .t1) (c .before .before .before .args .i) w (omega arith)
 
@@ -26,4 +14,4 @@ returns-2 c = λ deck w. span-none deck (c .before .args .t1) (c .before .args .
 
 pub places-spec : {M : Type 1} → statement M
 places-spec =
-    tie.close (tie.spec mul-t7 element-copy-out-t10 mul-t11 element-copy-out-t14 returns returns-2)
+    tie.close (tie.spec (λ c. search needs) (λ c. search needs) (λ c. search needs) (λ c. search needs) returns returns-2)

@@ -10,17 +10,8 @@ use Rattle.deck.proofs.lines.letter_at.Reads as letter-at-reads
 use Rattle.deck.proofs.lines.row.Reads as row-reads
 use Rattle.deck.proofs.lines.split.Reads as split-reads
 
-split-requires : tie.Need-split-requires
-split-requires c κs = search needs
-
 letter-at-requires : tie.Need-letter-at-requires
 letter-at-requires c κs = c .split .ensures .placed
-
-enum-known-kind : tie.Need-enum-known-kind
-enum-known-kind c = search needs
-
-enum-told : tie.Need-enum-told
-enum-told c = search needs
 
 returns : tie.Need-returns
 unfolding lineIs numIs
@@ -37,10 +28,10 @@ pub read-line-spec : {M : Type 1} → statement M
 read-line-spec =
     tie.close
     (tie.spec
-    split-requires
+    (λ c κs. search needs)
     letter-at-requires
-    enum-known-kind
-    enum-told
+    (λ c. search needs)
+    (λ c. search needs)
     returns
     row-requires
     returns-2)

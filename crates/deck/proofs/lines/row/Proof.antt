@@ -17,30 +17,6 @@ use Rattle.deck.proofs.lines.line_m.Reads as line-m-reads
 use Rattle.deck.proofs.lines.line_s.Reads as line-s-reads
 use Rattle.deck.proofs.lines.line_t.Reads as line-t-reads
 
-line-t-requires : tie.Need-line-t-requires
-line-t-requires c κs = search needs
-
-line-g-requires : tie.Need-line-g-requires
-line-g-requires c κs = search needs
-
-line-s-requires : tie.Need-line-s-requires
-line-s-requires c κs = search needs
-
-line-f-requires : tie.Need-line-f-requires
-line-f-requires c κs = search needs
-
-line-m-requires : tie.Need-line-m-requires
-line-m-requires c κs = search needs
-
-line-b-requires : tie.Need-line-b-requires
-line-b-requires c κs = search needs
-
-line-e-requires : tie.Need-line-e-requires
-line-e-requires c κs = search needs
-
-line-c-requires : tie.Need-line-c-requires
-line-c-requires c κs = search needs
-
 returns : tie.Need-returns
 unfolding byLetter firstOf
 returns c = rw (c .before .match .keys1) (c .line-t .ensures)
@@ -81,14 +57,14 @@ pub row-spec : {M : Type 1} → statement M
 row-spec =
     tie.close
     (tie.spec
-    line-t-requires
-    line-g-requires
-    line-s-requires
-    line-f-requires
-    line-m-requires
-    line-b-requires
-    line-e-requires
-    line-c-requires
+    (λ c κs. search needs)
+    (λ c κs. search needs)
+    (λ c κs. search needs)
+    (λ c κs. search needs)
+    (λ c κs. search needs)
+    (λ c κs. search needs)
+    (λ c κs. search needs)
+    (λ c κs. search needs)
     returns
     returns-2
     returns-3

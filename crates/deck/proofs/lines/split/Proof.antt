@@ -21,32 +21,8 @@ abbrev μ-loop : tie.MeasureT-loop
 loop-holds : tie.Need-loop-holds Inv-loop μ-loop
 loop-holds c = split-start (c .before .args .deck .now) (c .before .args .start) (c .before .args .end) (replicate 8 0) (replicate 8 0) refl refl (omega arith)
 
-find-byte-requires : tie.Need-find-byte-requires Inv-loop μ-loop
-find-byte-requires c κs = search needs
-
-mul-starts : tie.Need-mul-starts Inv-loop μ-loop
-mul-starts c = search needs
-
-array-write-starts : tie.Need-array-write-starts Inv-loop μ-loop
-array-write-starts c = search needs
-
-mul-ends : tie.Need-mul-ends Inv-loop μ-loop
-mul-ends c = search needs
-
-array-write-ends : tie.Need-array-write-ends Inv-loop μ-loop
-array-write-ends c = search needs
-
-add-count : tie.Need-add-count Inv-loop μ-loop
-add-count c = search needs
-
 returns : tie.Need-returns Inv-loop μ-loop
 returns c = split-last (c .before .before .before .before .before .args .deck .now) (fields (partAt (c .before .before .before .before .before .args .deck .now) (c .before .before .before .before .before .args .start) (c .before .before .before .before .before .args .end))) (c .before .before .before .before .before .args .end) (c .before .before .before .loop .starts) (c .before .before .before .loop .ends) (c .before .before .before .loop .count) (c .before .before .before .loop .at) (c .before .find-byte .result) (omega arith) (c .before .before .before .loop .inv) (omega arith) (c .before .find-byte .ensures) (omega arith)
-
-add-at : tie.Need-add-at Inv-loop μ-loop
-add-at c = search needs
-
-loop-less : tie.Need-loop-less Inv-loop μ-loop
-loop-less c = search needs
 
 loop-again : tie.Need-loop-again Inv-loop μ-loop
 loop-again c = split-turn (c .before .before .before .before .before .args .deck .now) (fields (partAt (c .before .before .before .before .before .args .deck .now) (c .before .before .before .before .before .args .start) (c .before .before .before .before .before .args .end))) (c .before .before .before .before .before .args .end) (c .before .before .before .loop .starts) (c .before .before .before .loop .ends) (c .before .before .before .loop .count) (c .before .before .before .loop .at) (c .before .find-byte .result) (omega arith) (c .before .before .before .loop .inv) (omega arith) (c .before .find-byte .ensures) (omega arith)
@@ -61,14 +37,14 @@ split-spec =
     Inv-loop
     μ-loop
     loop-holds
-    find-byte-requires
-    mul-starts
-    array-write-starts
-    mul-ends
-    array-write-ends
-    add-count
+    (λ c κs. search needs)
+    (λ c. search needs)
+    (λ c. search needs)
+    (λ c. search needs)
+    (λ c. search needs)
+    (λ c. search needs)
     returns
-    add-at
-    loop-less
+    (λ c. search needs)
+    (λ c. search needs)
     loop-again
     returns-2)

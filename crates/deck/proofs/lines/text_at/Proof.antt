@@ -12,21 +12,9 @@ use Rattle.deck.proofs.fields.text_field.Reads as text-field-reads
 use Rattle.deck.proofs.lines.letter_at.Reads as letter-at-reads
 use Rattle.deck.proofs.lines.places.Reads as places-reads
 
-letter-at-requires : tie.Need-letter-at-requires
-letter-at-requires c κs = search needs
-
-enum-known-kind : tie.Need-enum-known-kind
-enum-known-kind c = search needs
-
-enum-told : tie.Need-enum-told
-enum-told c = search needs
-
 returns : tie.Need-returns
 unfolding textIs numIs textFields bind
 returns c = record { is = rw (← c .before .before .letter-at .ensures, c .enum-told .given .1); fits = tt }
-
-places-requires : tie.Need-places-requires
-places-requires c κs = search needs
 
 text-field-requires : tie.Need-text-field-requires
 text-field-requires c κs = ((c .places .ensures (c .before .before .before .before .before .before .args .deck .now) (c .before .before .before .before .before .before .pre .0)) .ordered, (c .places .ensures (c .before .before .before .before .before .before .args .deck .now) (c .before .before .before .before .before .before .pre .0)) .within, omega arith)
@@ -39,10 +27,10 @@ pub text-at-spec : {M : Type 1} → statement M
 text-at-spec =
     tie.close
     (tie.spec
-    letter-at-requires
-    enum-known-kind
-    enum-told
+    (λ c κs. search needs)
+    (λ c. search needs)
+    (λ c. search needs)
     returns
-    places-requires
+    (λ c κs. search needs)
     text-field-requires
     returns-2)

@@ -14,15 +14,6 @@ read-lines-requires c κs =
     let b = c .before .before .before .before .before .before .before .before in
     (c .before .before .before .if1 .left, b .pre)
 
-same-length : tie.Need-same-length
-same-length c = search needs
-
-same-length-2 : tie.Need-same-length-2
-same-length-2 c = search needs
-
-same-length-3 : tie.Need-same-length-3
-same-length-3 c = search needs
-
 returns-2 : tie.Need-returns-2
 returns-2 c = c .before .before .before .before .before .before .read-lines .ensures
 
@@ -32,7 +23,7 @@ load-deck-spec =
     (tie.spec
     returns
     read-lines-requires
-    same-length
-    same-length-2
-    same-length-3
+    (λ c. search needs)
+    (λ c. search needs)
+    (λ c. search needs)
     returns-2)

@@ -5,27 +5,6 @@ use Rattle.load.proofs.Laws.Call.{into-refused, into-loaded}
 use Rattle.load.proofs.load.load_empty.Statement.{statement}
 use Rattle.load.proofs.load.load_empty.Tie as tie
 
-load-deck-requires : tie.Need-load-deck-requires
-load-deck-requires c κs = search needs
-
-enum-told : tie.Need-enum-told
-enum-told c = search needs
-
-clear-all-requires : tie.Need-clear-all-requires
-clear-all-requires c κs = search needs
-
-enum-told-2 : tie.Need-enum-told-2
-enum-told-2 c = search needs
-
-same-length : tie.Need-same-length
-same-length c = search needs
-
-same-length-2 : tie.Need-same-length-2
-same-length-2 c = search needs
-
-same-length-3 : tie.Need-same-length-3
-same-length-3 c = search needs
-
 returns : tie.Need-returns
 returns c log z l =
     let b = c .before .before .before .before .before .before .before .before .before .before .before .before .before .before .before .before .before .before .before .before .before .before .before .before .before .before in
@@ -37,15 +16,6 @@ returns c log z l =
     (d .ensures .goodModel .size ∙ sym (b .pre .1 .1 .good .size))
     _ _ _ (k .ensures .0) (k .ensures .1 .0) (k .ensures .1 .1) z
 
-same-length-4 : tie.Need-same-length-4
-same-length-4 c = search needs
-
-same-length-5 : tie.Need-same-length-5
-same-length-5 c = search needs
-
-same-length-6 : tie.Need-same-length-6
-same-length-6 c = search needs
-
 returns-2 : tie.Need-returns-2
 returns-2 c log z l =
     let b = c .before .before .before .before .before .before .before .before .before .before .before .before .before .before .before .before in
@@ -56,15 +26,15 @@ pub load-empty-spec : {M : Type 1} → statement M
 load-empty-spec =
     tie.close
     (tie.spec
-    load-deck-requires
-    enum-told
-    clear-all-requires
-    enum-told-2
-    same-length
-    same-length-2
-    same-length-3
+    (λ c κs. search needs)
+    (λ c. search needs)
+    (λ c κs. search needs)
+    (λ c. search needs)
+    (λ c. search needs)
+    (λ c. search needs)
+    (λ c. search needs)
     returns
-    same-length-4
-    same-length-5
-    same-length-6
+    (λ c. search needs)
+    (λ c. search needs)
+    (λ c. search needs)
     returns-2)

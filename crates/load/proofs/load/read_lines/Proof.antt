@@ -13,9 +13,6 @@ Inv-loop deck schema₀ elements₀ model₀ p₀ at₀ n₀ schema elements mod
 abbrev μ-loop : tie.MeasureT-loop
 μ-loop deck schema₀ elements₀ model₀ p₀ at₀ n₀ schema elements model p at n = length deck - at
 
-start-requires : tie.Need-start-requires Inv-loop μ-loop
-start-requires c κs = search needs
-
 loop-holds : tie.Need-loop-holds Inv-loop μ-loop
 loop-holds c =
     let b = c .before .before .before .before .before in
@@ -31,15 +28,6 @@ add-number c =
     let h = c .before .before .before .before .before .before .before .before .pre .0 in
     search needs
 
-same-length : tie.Need-same-length Inv-loop μ-loop
-same-length c = search needs
-
-same-length-2 : tie.Need-same-length-2 Inv-loop μ-loop
-same-length-2 c = search needs
-
-same-length-3 : tie.Need-same-length-3 Inv-loop μ-loop
-same-length-3 c = search needs
-
 returns : tie.Need-returns Inv-loop μ-loop
 returns c =
     let b = c .before .before .before .before .before .before .before .before .before in
@@ -53,9 +41,6 @@ read-line-requires c κs =
 
 load-line-requires : tie.Need-load-line-requires Inv-loop μ-loop
 load-line-requires c κs = (c .before .before .before .before .before .before .before .loop .inv .good, c .before .before .before .read-line .ensures .fits)
-
-enum-known-v : tie.Need-enum-known-v Inv-loop μ-loop
-enum-known-v c = search needs
 
 same-length-4 : tie.Need-same-length-4 Inv-loop μ-loop
 same-length-4 c =
@@ -79,9 +64,6 @@ returns-2 c =
     reading-refused (b .args .deck .now) (l .p) (l .at) (l .n) (l .schema) (l .elements) (l .model) (l .inv) _ (c .before .before .before .before .before .before .before .before .before .before .before .before .before .before .before .line-end .ensures) _ _ _ _ _ (c .before .before .before .before .before .before .before .before .before .before .before .before .before .before .if1 .left) (c .before .before .before .before .before .before .before .before .before .before .before .before .before .read-line .ensures)
     (c .before .before .before .before .before .before .before .before .before .load-line .ensures) _ (c .before .v .given .1)
 
-enum-told : tie.Need-enum-told Inv-loop μ-loop
-enum-told c = search needs
-
 add-at : tie.Need-add-at Inv-loop μ-loop
 add-at c =
     let k = c .before .before .before .before .before .before .before .before .before .before .before .before .before .before .if1 .left in
@@ -101,18 +83,6 @@ loop-again c =
     reading-taken (b .args .deck .now) (l .p) (l .at) (l .n) (l .schema) (l .elements) (l .model) (l .inv) _ (c .before .before .before .before .before .before .before .before .before .before .before .before .before .before .before .line-end .ensures) _ _ _ _ _ (c .before .before .before .before .before .before .before .before .before .before .before .before .before .before .if1 .left) (c .before .before .before .before .before .before .before .before .before .before .before .before .before .read-line .ensures)
     (c .before .before .before .before .before .before .before .before .before .load-line .ensures) (c .before .enum-told .given .1)
 
-finish-requires : tie.Need-finish-requires Inv-loop μ-loop
-finish-requires c κs = search needs
-
-same-length-7 : tie.Need-same-length-7 Inv-loop μ-loop
-same-length-7 c = search needs
-
-same-length-8 : tie.Need-same-length-8 Inv-loop μ-loop
-same-length-8 c = search needs
-
-same-length-9 : tie.Need-same-length-9 Inv-loop μ-loop
-same-length-9 c = search needs
-
 returns-3 : tie.Need-returns-3 Inv-loop μ-loop
 returns-3 c =
     let b = c .before .before .before .before .before .before .before .before in
@@ -125,27 +95,27 @@ read-lines-spec =
     (tie.spec
     Inv-loop
     μ-loop
-    start-requires
+    (λ c κs. search needs)
     loop-holds
     line-end-requires
     add-number
-    same-length
-    same-length-2
-    same-length-3
+    (λ c. search needs)
+    (λ c. search needs)
+    (λ c. search needs)
     returns
     read-line-requires
     load-line-requires
-    enum-known-v
+    (λ c. search needs)
     same-length-4
     same-length-5
     same-length-6
     returns-2
-    enum-told
+    (λ c. search needs)
     add-at
     loop-less
     loop-again
-    finish-requires
-    same-length-7
-    same-length-8
-    same-length-9
+    (λ c κs. search needs)
+    (λ c. search needs)
+    (λ c. search needs)
+    (λ c. search needs)
     returns-3)

@@ -18,26 +18,14 @@ Inv-loop schema f n i₀ i =
 abbrev μ-loop : tie.MeasureT-loop
 μ-loop schema f n i₀ i = n - i
 
-file-count-requires : tie.Need-file-count-requires Inv-loop μ-loop
-file-count-requires c κs = search needs
-
 loop-holds : tie.Need-loop-holds Inv-loop μ-loop
 loop-holds c = (c .file-count .ensures, refl)
-
-file-number-requires : tie.Need-file-number-requires Inv-loop μ-loop
-file-number-requires c κs = search needs
 
 returns : tie.Need-returns Inv-loop μ-loop
 returns c =
     let l = c .before .before .before .before .before .loop in
     let xs = c .before .before .before .before .before .before .before .before .args .schema .now in
     below-stop _ (schemaOf xs .files) (l .i) _ (rw (l .inv .0) at (c .before .before .before .before .loop-test .taken)) (c .before .before .before .file-number .ensures) (c .if1 .taken) (l .inv .1)
-
-add-i : tie.Need-add-i Inv-loop μ-loop
-add-i c = search needs
-
-loop-less : tie.Need-loop-less Inv-loop μ-loop
-loop-less c = search needs
 
 loop-again : tie.Need-loop-again Inv-loop μ-loop
 loop-again c =
@@ -57,11 +45,11 @@ files-below-spec =
     (tie.spec
     Inv-loop
     μ-loop
-    file-count-requires
+    (λ c κs. search needs)
     loop-holds
-    file-number-requires
+    (λ c κs. search needs)
     returns
-    add-i
-    loop-less
+    (λ c. search needs)
+    (λ c. search needs)
     loop-again
     returns-2)

@@ -12,22 +12,10 @@ use Rattle.load.proofs.Laws.Taken.{taken-room}
 use Rattle.load.proofs.schema_lines.load_f.Statement.{statement}
 use Rattle.load.proofs.schema_lines.load_f.Tie as tie
 
-refuse-requires : tie.Need-refuse-requires
-refuse-requires c κs = search needs
-
 returns : tie.Need-returns
 returns c elements model g =
     line-refused _ _ _ elements model _ 1 (c .refuse .ensures) g
     (f-late _ _ (c .before .if1 .taken))
-
-files-below-requires : tie.Need-files-below-requires
-files-below-requires c κs = search needs
-
-refuse-requires-2 : tie.Need-refuse-requires-2
-refuse-requires-2 c κs = search needs
-
-same-length : tie.Need-same-length
-same-length c = search needs
 
 returns-2 : tie.Need-returns-2
 returns-2 c elements model g =
@@ -41,15 +29,6 @@ add-file-requires c κs =
     let below = sym (c .before .before .files-below .ensures) ∙ not-false _ (c .before .if2 .left) in
     let new = below-new (λ (d : File). d .file) _ (schemaOf xs .files) below in
     (b .pre .0, taken-room (λ (d : File). d .file) fileLimit (schemaOf xs .files) (fileIs (b .args .c)) (b .pre .1 .0 .0) new (b .pre .1 .1))
-
-after-requires : tie.Need-after-requires
-after-requires c κs = search needs
-
-take-line-requires : tie.Need-take-line-requires
-take-line-requires c κs = search needs
-
-same-length-2 : tie.Need-same-length-2
-same-length-2 c = search needs
 
 returns-3 : tie.Need-returns-3
 returns-3 c elements model g =
@@ -68,14 +47,14 @@ pub load-f-spec : {M : Type 1} → statement M
 load-f-spec =
     tie.close
     (tie.spec
-    refuse-requires
+    (λ c κs. search needs)
     returns
-    files-below-requires
-    refuse-requires-2
-    same-length
+    (λ c κs. search needs)
+    (λ c κs. search needs)
+    (λ c. search needs)
     returns-2
     add-file-requires
-    after-requires
-    take-line-requires
-    same-length-2
+    (λ c κs. search needs)
+    (λ c κs. search needs)
+    (λ c. search needs)
     returns-3)

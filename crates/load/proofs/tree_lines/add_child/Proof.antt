@@ -5,26 +5,11 @@ use Rattle.load.proofs.Laws.Elements.{item-requires, child-held}
 use Rattle.load.proofs.tree_lines.add_child.Statement.{statement}
 use Rattle.load.proofs.tree_lines.add_child.Tie as tie
 
-element-count-requires : tie.Need-element-count-requires
-element-count-requires c κs = search needs
-
-add-element-row-requires : tie.Need-add-element-row-requires
-add-element-row-requires c κs = search needs
-
-add-element-requires : tie.Need-add-element-requires
-add-element-requires c κs = search needs
-
 append-item-requires : tie.Need-append-item-requires
 append-item-requires c κs =
     let n = c .before .before .before .before .before .before .before .before .before in
     let s = n .before .before .before .before .pre .1 .1 .1 in
     item-requires _ _ _ _ _ _ (c .before .before .before .add-element .ensures) (s .1 .0) (s .1 .1) (n .element-count .ensures ∙ sym (s .0))
-
-same-length : tie.Need-same-length
-same-length c = search needs
-
-same-length-2 : tie.Need-same-length-2
-same-length-2 c = search needs
 
 returns : tie.Need-returns
 returns c =
@@ -38,10 +23,10 @@ pub add-child-spec : {M : Type 1} → statement M
 add-child-spec =
     tie.close
     (tie.spec
-    element-count-requires
-    add-element-row-requires
-    add-element-requires
+    (λ c κs. search needs)
+    (λ c κs. search needs)
+    (λ c κs. search needs)
     append-item-requires
-    same-length
-    same-length-2
+    (λ c. search needs)
+    (λ c. search needs)
     returns)

@@ -5,16 +5,10 @@ use Rattle.deck.specs.Load.{append}
 use Rattle.load.proofs.tree_lines.append_item.Statement.{statement}
 use Rattle.load.proofs.tree_lines.append_item.Tie as tie
 
-list-length-requires : tie.Need-list-length-requires
-list-length-requires c κs = search needs
-
 insert-item-requires : tie.Need-insert-item-requires
 insert-item-requires c κs =
     let s = c .before .before .before .before .pre in
     (s .0, (s .1 .0, (omega arith, (s .1 .1 .0, s .1 .1 .1))))
-
-same-length : tie.Need-same-length
-same-length c = search needs
 
 returns : tie.Need-returns
 unfolding append
@@ -22,4 +16,4 @@ returns c = rw (c .before .before .before .before .list-length .ensures) at (c .
 
 pub append-item-spec : {M : Type 1} → statement M
 append-item-spec =
-    tie.close (tie.spec list-length-requires insert-item-requires same-length returns)
+    tie.close (tie.spec (λ c κs. search needs) insert-item-requires (λ c. search needs) returns)

@@ -22,9 +22,6 @@ Inv-loop elements f n i₀ i =
 abbrev μ-loop : tie.MeasureT-loop
 μ-loop elements f n i₀ i = n - i
 
-tree-count-requires : tie.Need-tree-count-requires Inv-loop μ-loop
-tree-count-requires c κs = search needs
-
 loop-holds : tie.Need-loop-holds Inv-loop μ-loop
 loop-holds c =
     let s = c .before .before .args in (
@@ -33,9 +30,6 @@ loop-holds c =
       ap (anyOf (λ (t : Tree). eqb (t .file) (s .f .0))) (all-left (elementsOf (s .elements .now) .trees) (c .tree-count .result) (c .tree-count .ensures)),
     )
 
-tree-file-requires : tie.Need-tree-file-requires Inv-loop μ-loop
-tree-file-requires c κs = search needs
-
 returns : tie.Need-returns Inv-loop μ-loop
 returns c =
     let l = c .before .before .before .before .before .loop in
@@ -43,12 +37,6 @@ returns c =
     sym (any-stop noTree (elementsOf (s .elements .now) .trees) (c .before .before .before .before .before .before .tree-count .result) (omega arith) (l .i)
     (λ (t : Tree). eqb (t .file) (s .f .0)) (omega arith) (eq-eqb _ _ (sym (c .before .before .before .tree-file .ensures) ∙ c .if1 .taken)))
     ∙ l .inv .2
-
-add-i : tie.Need-add-i Inv-loop μ-loop
-add-i c = search needs
-
-loop-less : tie.Need-loop-less Inv-loop μ-loop
-loop-less c = search needs
 
 loop-again : tie.Need-loop-again Inv-loop μ-loop
 loop-again c =
@@ -75,11 +63,11 @@ has-tree-spec =
     (tie.spec
     Inv-loop
     μ-loop
-    tree-count-requires
+    (λ c κs. search needs)
     loop-holds
-    tree-file-requires
+    (λ c κs. search needs)
     returns
-    add-i
-    loop-less
+    (λ c. search needs)
+    (λ c. search needs)
     loop-again
     returns-2)

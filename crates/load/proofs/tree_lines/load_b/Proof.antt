@@ -14,44 +14,20 @@ use Rattle.load.proofs.tree_lines.load_b.Tie as tie
 waits : (c : tie.Else2) → let a = c .before .before .before .before .before .before .before .args in mayWait (loadingOf (a .p) (a .schema .now) (a .elements .now) (a .model .now)) (a .f .0) ≡ true
 waits c = sym (c .before .may-wait .ensures (c .before .before .before .before .before .before .before .args .p)) ∙ not-false _ (c .if2 .left)
 
-refuse-requires : tie.Need-refuse-requires
-refuse-requires c κs = search needs
-
 returns : tie.Need-returns
 returns c =
     line-refused _ _ _ _ _ _ 3 (c .refuse .ensures) (c .before .before .before .before .before .pre .0)
     (b-due _ _ (c .before .if1 .taken))
-
-may-wait-requires : tie.Need-may-wait-requires
-may-wait-requires c κs = search needs
-
-refuse-requires-2 : tie.Need-refuse-requires-2
-refuse-requires-2 c κs = search needs
-
-same-length : tie.Need-same-length
-same-length c = search needs
 
 returns-2 : tie.Need-returns-2
 returns-2 c =
     line-refused _ _ _ _ _ _ 3 (c .refuse2 .ensures) (c .before .before .before .before .before .before .before .before .pre .0)
     (b-barred _ _ (c .before .before .before .before .if1 .left) (sym (c .before .before .may-wait .ensures (c .before .before .before .before .before .before .before .before .args .p)) ∙ not-true _ (c .before .if2 .taken)))
 
-element-count-requires : tie.Need-element-count-requires
-element-count-requires c κs = search needs
-
 add-tree-requires : tie.Need-add-tree-requires
 add-tree-requires c κs =
     let s = c .before .before .before .before .before .before .before .before .before .before .pre in
     (s .0 .goodElements, wait-room _ _ (s .0 .fits) (s .1) (waits (c .before .before .before)))
-
-open-tree-requires : tie.Need-open-tree-requires
-open-tree-requires c κs = search needs
-
-take-line-requires : tie.Need-take-line-requires
-take-line-requires c κs = search needs
-
-same-length-2 : tie.Need-same-length-2
-same-length-2 c = search needs
 
 returns-3 : tie.Need-returns-3
 returns-3 c =
@@ -64,15 +40,15 @@ pub load-b-spec : {M : Type 1} → statement M
 load-b-spec =
     tie.close
     (tie.spec
-    refuse-requires
+    (λ c κs. search needs)
     returns
-    may-wait-requires
-    refuse-requires-2
-    same-length
+    (λ c κs. search needs)
+    (λ c κs. search needs)
+    (λ c. search needs)
     returns-2
-    element-count-requires
+    (λ c κs. search needs)
     add-tree-requires
-    open-tree-requires
-    take-line-requires
-    same-length-2
+    (λ c κs. search needs)
+    (λ c κs. search needs)
+    (λ c. search needs)
     returns-3)

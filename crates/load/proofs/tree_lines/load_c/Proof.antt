@@ -46,53 +46,20 @@ mode : (c : tie.After-takes-text) → let a = c .before .before .before .before 
 mode c =
     mode-told (schemaOf (c .before .before .before .before .before .before .before .before .before .before .before .before .before .before .before .before .before .args .schema .now)) _ _ _ (c .before .before .element-type .ensures) (c .before .type-mode .ensures) _ (c .takes-text .ensures)
 
-refuse-requires : tie.Need-refuse-requires
-refuse-requires c κs = search needs
-
 returns : tie.Need-returns
 returns c =
     line-refused _ _ _ _ _ _ 4 (c .refuse .ensures) (c .before .before .before .before .before .before .pre .0)
     (c-deep _ _ _ (c .before .if1 .taken))
-
-item-total-requires : tie.Need-item-total-requires
-item-total-requires c κs = search needs
-
-refuse-requires-2 : tie.Need-refuse-requires-2
-refuse-requires-2 c κs = search needs
-
-same-length : tie.Need-same-length
-same-length c = search needs
 
 returns-2 : tie.Need-returns-2
 returns-2 c =
     line-refused _ _ _ _ _ _ 4 (c .refuse2 .ensures) (c .before .before .before .before .before .before .before .before .before .pre .0)
     (c-full _ _ _ (c .before .before .before .before .if1 .left) (rw (c .before .before .item-total .ensures) at (c .before .if2 .taken)))
 
-refuse-requires-3 : tie.Need-refuse-requires-3
-refuse-requires-3 c κs = search needs
-
-same-length-2 : tie.Need-same-length-2
-same-length-2 c = search needs
-
 returns-3 : tie.Need-returns-3
 returns-3 c =
     line-refused _ _ _ _ _ _ 3 (c .refuse3 .ensures) (c .before .before .before .before .before .before .before .before .before .before .pre .0)
     (c-due _ _ _ (c .before .before .before .before .before .if1 .left) (few (c .before .before)) (c .before .if3 .taken))
-
-owner-requires : tie.Need-owner-requires
-owner-requires c κs = search needs
-
-enum-known-o : tie.Need-enum-known-o
-enum-known-o c = search needs
-
-enum-told : tie.Need-enum-told
-enum-told c = search needs
-
-refuse-requires-4 : tie.Need-refuse-requires-4
-refuse-requires-4 c κs = search needs
-
-same-length-3 : tie.Need-same-length-3
-same-length-3 c = search needs
 
 returns-4 : tie.Need-returns-4
 returns-4 c =
@@ -110,15 +77,6 @@ type-mode-requires c κs =
 takes-text-requires : tie.Need-takes-text-requires
 takes-text-requires c κs = rw (c .type-mode .ensures) (mode-below _)
 
-refuse-requires-5 : tie.Need-refuse-requires-5
-refuse-requires-5 c κs = search needs
-
-same-length-4 : tie.Need-same-length-4
-same-length-4 c = search needs
-
-same-length-5 : tie.Need-same-length-5
-same-length-5 c = search needs
-
 returns-5 : tie.Need-returns-5
 returns-5 c =
     let t = c .before .before in
@@ -127,27 +85,12 @@ returns-5 c =
     line-refused _ _ _ _ _ _ 3 (c .refuse5 .ensures) (e .before .before .before .before .before .before .before .before .pre .0)
     (c-barred _ _ _ (e .before .before .before .if1 .left) (few e) (o .before .before .before .before .if3 .left) _ (owns o) (mode t ∙ not-true _ (c .before .if4 .taken)))
 
-text-count-requires : tie.Need-text-count-requires
-text-count-requires c κs = search needs
-
-add-text-requires : tie.Need-add-text-requires
-add-text-requires c κs = search needs
-
 append-item-requires : tie.Need-append-item-requires
 append-item-requires c κs =
     let o = c .before .before .before .before .before .before .before .before .before .before .before .before in
     let g = o .before .before .before .before .before .before .before .before .before .before .before .before .before .pre .0 in
     let room = few (o .before .before .before .before .before) in
     (g .goodModel, (omega (arith, g .fits .same, element o), (room, omega (arith, g .fits .texts, c .before .before .before .before .before .text-count .ensures))))
-
-take-line-requires : tie.Need-take-line-requires
-take-line-requires c κs = search needs
-
-same-length-6 : tie.Need-same-length-6
-same-length-6 c = search needs
-
-same-length-7 : tie.Need-same-length-7
-same-length-7 c = search needs
 
 returns-6 : tie.Need-returns-6
 returns-6 c =
@@ -161,32 +104,32 @@ pub load-c-spec : {M : Type 1} → statement M
 load-c-spec =
     tie.close
     (tie.spec
-    refuse-requires
+    (λ c κs. search needs)
     returns
-    item-total-requires
-    refuse-requires-2
-    same-length
+    (λ c κs. search needs)
+    (λ c κs. search needs)
+    (λ c. search needs)
     returns-2
-    refuse-requires-3
-    same-length-2
+    (λ c κs. search needs)
+    (λ c. search needs)
     returns-3
-    owner-requires
-    enum-known-o
-    enum-told
-    refuse-requires-4
-    same-length-3
+    (λ c κs. search needs)
+    (λ c. search needs)
+    (λ c. search needs)
+    (λ c κs. search needs)
+    (λ c. search needs)
     returns-4
     element-type-requires
     type-mode-requires
     takes-text-requires
-    refuse-requires-5
-    same-length-4
-    same-length-5
+    (λ c κs. search needs)
+    (λ c. search needs)
+    (λ c. search needs)
     returns-5
-    text-count-requires
-    add-text-requires
+    (λ c κs. search needs)
+    (λ c κs. search needs)
     append-item-requires
-    take-line-requires
-    same-length-6
-    same-length-7
+    (λ c κs. search needs)
+    (λ c. search needs)
+    (λ c. search needs)
     returns-6)

@@ -42,18 +42,6 @@ found c =
 within : (c : tie.After-known-told2) → c .before .i .given .0 .0 < length (schemaOf (c .before .before .before .before .before .before .before .before .before .before .before .before .before .args .schema .now) .subElements)
 within c = found-within (c .before .before .before .find-sub-element .ensures) (c .before .i .given .1)
 
-owner-requires : tie.Need-owner-requires
-owner-requires c κs = search needs
-
-enum-known-o : tie.Need-enum-known-o
-enum-known-o c = search needs
-
-enum-told : tie.Need-enum-told
-enum-told c = search needs
-
-refuse-requires : tie.Need-refuse-requires
-refuse-requires c κs = search needs
-
 returns : tie.Need-returns
 returns c =
     line-refused _ _ _ _ _ _ 3 (c .refuse .ensures) (c .before .before .before .before .before .before .before .pre .0)
@@ -61,21 +49,6 @@ returns c =
 
 element-type-requires : tie.Need-element-type-requires
 element-type-requires c κs = (c .before .before .before .before .before .before .before .before .pre .0 .goodElements, owner-element _ _ _ _ (c .before .before .before .before .before .before .before .before .pre .0 .fits .opened) (owns (c .before)))
-
-find-sub-element-requires : tie.Need-find-sub-element-requires
-find-sub-element-requires c κs = search needs
-
-enum-known-i : tie.Need-enum-known-i
-enum-known-i c = search needs
-
-enum-told-2 : tie.Need-enum-told-2
-enum-told-2 c = search needs
-
-refuse-requires-2 : tie.Need-refuse-requires-2
-refuse-requires-2 c κs = search needs
-
-same-length : tie.Need-same-length
-same-length c = search needs
 
 returns-2 : tie.Need-returns-2
 returns-2 c =
@@ -85,27 +58,12 @@ returns-2 c =
     (child-unknown _ _ _ _ _ (owns o)
     (row-of _ _ _ _ _ _ (f .before .element-type .ensures) (found-missing (f .find-sub-element .ensures) (c .before .enum-told2 .given .1))))
 
-set-rule-requires : tie.Need-set-rule-requires
-set-rule-requires c κs = search needs
-
-refuse-requires-3 : tie.Need-refuse-requires-3
-refuse-requires-3 c κs = search needs
-
-same-length-2 : tie.Need-same-length-2
-same-length-2 c = search needs
-
-same-length-3 : tie.Need-same-length-3
-same-length-3 c = search needs
-
 returns-3 : tie.Need-returns-3
 returns-3 c =
     let r = c .before .before .before .before in
     let o = r .before .before .before .before .before .before in
     line-refused _ _ _ _ _ _ 3 (c .refuse3 .ensures) (o .before .before .before .before .before .before .before .pre .0)
     (child-barred _ _ _ _ _ (owns o) _ (found r) (sym (c .before .before .set-rule .ensures _ _) ∙ not-true _ (c .before .if1 .taken)))
-
-element-count-requires : tie.Need-element-count-requires
-element-count-requires c κs = search needs
 
 row-child-requires : tie.Need-row-child-requires
 row-child-requires c κs =
@@ -130,15 +88,6 @@ open-element-requires c κs =
     let s = c .before .before .before .before .before .before .before .before .before .before .before .before .before .before .before .before .before .before .before .before .before .before .before .before .before .before .pre in
     (omega (arith, s .1 .1 .0), s .0 .room)
 
-take-line-requires : tie.Need-take-line-requires
-take-line-requires c κs = search needs
-
-same-length-4 : tie.Need-same-length-4
-same-length-4 c = search needs
-
-same-length-5 : tie.Need-same-length-5
-same-length-5 c = search needs
-
 returns-4 : tie.Need-returns-4
 returns-4 c =
     let r = c .before .before .before .before .before .before .before .before .before .before .before .before .before .before .before in
@@ -152,28 +101,28 @@ pub load-child-spec : {M : Type 1} → statement M
 load-child-spec =
     tie.close
     (tie.spec
-    owner-requires
-    enum-known-o
-    enum-told
-    refuse-requires
+    (λ c κs. search needs)
+    (λ c. search needs)
+    (λ c. search needs)
+    (λ c κs. search needs)
     returns
     element-type-requires
-    find-sub-element-requires
-    enum-known-i
-    enum-told-2
-    refuse-requires-2
-    same-length
+    (λ c κs. search needs)
+    (λ c. search needs)
+    (λ c. search needs)
+    (λ c κs. search needs)
+    (λ c. search needs)
     returns-2
-    set-rule-requires
-    refuse-requires-3
-    same-length-2
-    same-length-3
+    (λ c κs. search needs)
+    (λ c κs. search needs)
+    (λ c. search needs)
+    (λ c. search needs)
     returns-3
-    element-count-requires
+    (λ c κs. search needs)
     row-child-requires
     add-child-requires
     open-element-requires
-    take-line-requires
-    same-length-4
-    same-length-5
+    (λ c κs. search needs)
+    (λ c. search needs)
+    (λ c. search needs)
     returns-4)

@@ -26,54 +26,21 @@ room c =
     let n = contentItems (modelOf (c .before .before .before .before .before .before .before .before .before .before .args .model .now)) in
     ⊎-elim (λ w. room-item d n (rw (w .2 .ensures) at (w .3 .left))) (λ w. room-root d n (w .left)) (c .if3 .came)
 
-refuse-requires : tie.Need-refuse-requires
-refuse-requires c κs = search needs
-
 returns : tie.Need-returns
 returns c =
     line-refused _ _ _ _ _ _ 4 (c .refuse .ensures) (c .before .before .before .before .before .before .pre)
     (e-deep _ _ _ _ (c .before .if1 .taken))
-
-element-count-requires : tie.Need-element-count-requires
-element-count-requires c κs = search needs
-
-refuse-requires-2 : tie.Need-refuse-requires-2
-refuse-requires-2 c κs = search needs
-
-same-length : tie.Need-same-length
-same-length c = search needs
 
 returns-2 : tie.Need-returns-2
 returns-2 c =
     line-refused _ _ _ _ _ _ 4 (c .refuse2 .ensures) (c .before .before .before .before .before .before .before .before .before .pre)
     (e-many _ _ _ _ (c .before .before .before .before .if1 .left) (rw (c .before .before .element-count .ensures) at (c .before .if2 .taken)))
 
-item-total-requires : tie.Need-item-total-requires
-item-total-requires c κs = search needs
-
-refuse-requires-3 : tie.Need-refuse-requires-3
-refuse-requires-3 c κs = search needs
-
-same-length-2 : tie.Need-same-length-2
-same-length-2 c = search needs
-
-same-length-3 : tie.Need-same-length-3
-same-length-3 c = search needs
-
 returns-3 : tie.Need-returns-3
 returns-3 c =
     let e = c .before .before .before .before .before .before in
     line-refused _ _ _ _ _ _ 4 (c .refuse3 .ensures) (e .before .before .before .before .before .before .before .before .pre)
     (e-full _ _ _ _ (e .before .before .before .if1 .left) (few e) (c .before .before .before .before .if3 .taken) (rw (c .before .before .item-total .ensures) at (c .before .if4 .taken)))
-
-load-root-requires : tie.Need-load-root-requires
-load-root-requires c κs = search needs
-
-same-length-4 : tie.Need-same-length-4
-same-length-4 c = search needs
-
-same-length-5 : tie.Need-same-length-5
-same-length-5 c = search needs
 
 returns-4 : tie.Need-returns-4
 returns-4 c =
@@ -85,12 +52,6 @@ load-child-requires c κs =
     let e = c .before .before .before .before .before in
     (e .before .before .before .before .before .before .before .before .pre, (few e, (e .before .before .before .if1 .left, room (c .before .before .before))))
 
-same-length-6 : tie.Need-same-length-6
-same-length-6 c = search needs
-
-same-length-7 : tie.Need-same-length-7
-same-length-7 c = search needs
-
 returns-5 : tie.Need-returns-5
 returns-5 c =
     let e = c .before .before .before .before .before .before .before .before .before .before in
@@ -100,22 +61,22 @@ pub load-e-spec : {M : Type 1} → statement M
 load-e-spec =
     tie.close
     (tie.spec
-    refuse-requires
+    (λ c κs. search needs)
     returns
-    element-count-requires
-    refuse-requires-2
-    same-length
+    (λ c κs. search needs)
+    (λ c κs. search needs)
+    (λ c. search needs)
     returns-2
-    item-total-requires
-    refuse-requires-3
-    same-length-2
-    same-length-3
+    (λ c κs. search needs)
+    (λ c κs. search needs)
+    (λ c. search needs)
+    (λ c. search needs)
     returns-3
-    load-root-requires
-    same-length-4
-    same-length-5
+    (λ c κs. search needs)
+    (λ c. search needs)
+    (λ c. search needs)
     returns-4
     load-child-requires
-    same-length-6
-    same-length-7
+    (λ c. search needs)
+    (λ c. search needs)
     returns-5)

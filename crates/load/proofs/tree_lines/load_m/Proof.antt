@@ -6,26 +6,14 @@ use Rattle.load.proofs.Laws.Trees.{m-late, m-twice, m-line}
 use Rattle.load.proofs.tree_lines.load_m.Statement.{statement}
 use Rattle.load.proofs.tree_lines.load_m.Tie as tie
 
-refuse-requires : tie.Need-refuse-requires
-refuse-requires c κs = search needs
-
 returns : tie.Need-returns
 returns c =
     λ schema elements model g. line-refused _ _ schema elements model _ 1 (c .refuse .ensures) g (m-late _ (c .before .if1 .taken))
-
-refuse-requires-2 : tie.Need-refuse-requires-2
-refuse-requires-2 c κs = search needs
 
 returns-2 : tie.Need-returns-2
 returns-2 c =
     λ schema elements model g.
     line-refused _ _ schema elements model _ 3 (c .refuse2 .ensures) g (m-twice _ (c .before .before .before .if1 .left) (c .before .if2 .taken))
-
-open-tree-requires : tie.Need-open-tree-requires
-open-tree-requires c κs = search needs
-
-take-line-requires : tie.Need-take-line-requires
-take-line-requires c κs = search needs
 
 returns-3 : tie.Need-returns-3
 returns-3 c =
@@ -36,10 +24,10 @@ pub load-m-spec : {M : Type 1} → statement M
 load-m-spec =
     tie.close
     (tie.spec
-    refuse-requires
+    (λ c κs. search needs)
     returns
-    refuse-requires-2
+    (λ c κs. search needs)
     returns-2
-    open-tree-requires
-    take-line-requires
+    (λ c κs. search needs)
+    (λ c κs. search needs)
     returns-3)

@@ -14,27 +14,15 @@ use Rattle.load.proofs.tree_lines.load_root.Tie as tie
 typed : (c : tie.Else3) → declaredType (schemaOf (c .before .before .before .before .before .before .before .before .before .before .args .schema .now)) 0 ≡ true
 typed c = sym (c .before .type-declared .ensures) ∙ not-false _ (c .if3 .left)
 
-refuse-requires : tie.Need-refuse-requires
-refuse-requires c κs = search needs
-
 returns : tie.Need-returns
 returns c =
     line-refused _ _ _ _ _ _ 3 (c .refuse .ensures) (c .before .before .before .before .before .before .before .pre .0)
     (root-deep _ _ _ _ (c .before .if1 .taken))
 
-refuse-requires-2 : tie.Need-refuse-requires-2
-refuse-requires-2 c κs = search needs
-
 returns-2 : tie.Need-returns-2
 returns-2 c =
     line-refused _ _ _ _ _ _ 3 (c .refuse2 .ensures) (c .before .before .before .before .before .before .before .before .before .pre .0)
     (root-named _ _ _ _ (c .before .before .before .if1 .left) (c .before .if2 .taken))
-
-type-declared-requires : tie.Need-type-declared-requires
-type-declared-requires c κs = search needs
-
-refuse-requires-3 : tie.Need-refuse-requires-3
-refuse-requires-3 c κs = search needs
 
 returns-3 : tie.Need-returns-3
 returns-3 c =
@@ -42,38 +30,11 @@ returns-3 c =
     line-refused _ _ _ _ _ _ 2 (c .refuse3 .ensures) (t .before .before .before .before .before .before .before .before .before .pre .0)
     (root-untyped _ _ _ _ (t .before .before .before .if1 .left) (t .before .if2 .left) (sym (t .type-declared .ensures) ∙ not-true _ (c .before .if3 .taken)))
 
-root-set-rule-requires : tie.Need-root-set-rule-requires
-root-set-rule-requires c κs = search needs
-
-refuse-requires-4 : tie.Need-refuse-requires-4
-refuse-requires-4 c κs = search needs
-
 returns-4 : tie.Need-returns-4
 returns-4 c =
     let t = c .before .before .before in
     line-refused _ _ _ _ _ _ 3 (c .refuse4 .ensures) (t .before .before .before .before .before .before .before .before .before .before .pre .0)
     (root-barred _ _ _ _ (t .before .before .before .before .if1 .left) (t .before .before .if2 .left) (typed t) (sym (c .before .before .root-set-rule .ensures _ _) ∙ not-true _ (c .before .if4 .taken)))
-
-element-count-requires : tie.Need-element-count-requires
-element-count-requires c κs = search needs
-
-add-element-row-requires : tie.Need-add-element-row-requires
-add-element-row-requires c κs = search needs
-
-add-element-requires : tie.Need-add-element-requires
-add-element-requires c κs = search needs
-
-open-element-requires : tie.Need-open-element-requires
-open-element-requires c κs = search needs
-
-take-line-requires : tie.Need-take-line-requires
-take-line-requires c κs = search needs
-
-same-length : tie.Need-same-length
-same-length c = search needs
-
-same-length-2 : tie.Need-same-length-2
-same-length-2 c = search needs
 
 returns-5 : tie.Need-returns-5
 returns-5 c =
@@ -87,21 +48,21 @@ pub load-root-spec : {M : Type 1} → statement M
 load-root-spec =
     tie.close
     (tie.spec
-    refuse-requires
+    (λ c κs. search needs)
     returns
-    refuse-requires-2
+    (λ c κs. search needs)
     returns-2
-    type-declared-requires
-    refuse-requires-3
+    (λ c κs. search needs)
+    (λ c κs. search needs)
     returns-3
-    root-set-rule-requires
-    refuse-requires-4
+    (λ c κs. search needs)
+    (λ c κs. search needs)
     returns-4
-    element-count-requires
-    add-element-row-requires
-    add-element-requires
-    open-element-requires
-    take-line-requires
-    same-length
-    same-length-2
+    (λ c κs. search needs)
+    (λ c κs. search needs)
+    (λ c κs. search needs)
+    (λ c κs. search needs)
+    (λ c κs. search needs)
+    (λ c. search needs)
+    (λ c. search needs)
     returns-5)

@@ -7,19 +7,13 @@ use Rattle.tables.specs.ModelTable.{modelOf}
 use Rattle.load.proofs.tree_lines.loaded_files.Statement.{statement}
 use Rattle.load.proofs.tree_lines.loaded_files.Tie as tie
 
-count-requires : tie.Need-count-requires
-count-requires c κs = search needs
-
 returns : tie.Need-returns
 returns c =
     let xs = c .before .before .before .args .model .now in
     sym (List·getD-eq-default (modelOf xs .sets) 0 (omega arith))
 
-set-of-requires : tie.Need-set-of-requires
-set-of-requires c κs = search needs
-
 returns-2 : tie.Need-returns-2
 returns-2 c = c .set-of .ensures
 
 pub loaded-files-spec : {M : Type 1} → statement M
-loaded-files-spec = tie.close (tie.spec count-requires returns set-of-requires returns-2)
+loaded-files-spec = tie.close (tie.spec (λ c κs. search needs) returns (λ c κs. search needs) returns-2)

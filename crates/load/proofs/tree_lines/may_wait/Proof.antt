@@ -22,25 +22,13 @@ declared c = sym (c .before .declares-file .ensures) ∙ not-false _ (c .if1 .le
 held : (c : tie.After-holds) → holds (loadedFiles (modelOf (c .before .before .before .before .before .before .before .args .model .now))) (c .before .before .before .before .before .before .before .args .f .0) ≡ c .holds .result
 held c = ap (λ (s : FileSet). holds s (c .before .before .before .before .before .before .before .args .f .0)) (sym (c .before .loaded-files .ensures)) ∙ sym (c .holds .ensures)
 
-declares-file-requires : tie.Need-declares-file-requires
-declares-file-requires c κs = search needs
-
 returns : tie.Need-returns
 returns c =
     λ p. sym (wait-undeclared _ _ (sym (c .before .declares-file .ensures) ∙ not-true _ (c .if1 .taken)))
 
-loaded-files-requires : tie.Need-loaded-files-requires
-loaded-files-requires c κs = search needs
-
-holds-requires : tie.Need-holds-requires
-holds-requires c κs = search needs
-
 returns-2 : tie.Need-returns-2
 returns-2 c =
     λ p. sym (wait-loaded _ _ (declared (c .before .before .before)) (held (c .before) ∙ c .if2 .taken))
-
-has-tree-requires : tie.Need-has-tree-requires
-has-tree-requires c κs = search needs
 
 returns-3 : tie.Need-returns-3
 returns-3 c =
@@ -50,10 +38,10 @@ pub may-wait-spec : {M : Type 1} → statement M
 may-wait-spec =
     tie.close
     (tie.spec
-    declares-file-requires
+    (λ c κs. search needs)
     returns
-    loaded-files-requires
-    holds-requires
+    (λ c κs. search needs)
+    (λ c κs. search needs)
     returns-2
-    has-tree-requires
+    (λ c κs. search needs)
     returns-3)

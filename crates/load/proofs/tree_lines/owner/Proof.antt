@@ -13,19 +13,10 @@ returns-2 c =
     let p = c .before .before .args .t1 in
     λ l e. owner-past l (p .depth) (p .above) e (c .before .before .args .d) (c .if2 .taken)
 
-sub-i : tie.Need-sub-i
-sub-i c = search needs
-
-mul-t6 : tie.Need-mul-t6
-mul-t6 c = search needs
-
-element-copy-out-t11 : tie.Need-element-copy-out-t11
-element-copy-out-t11 c = search needs
-
 returns-3 : tie.Need-returns-3
 returns-3 c =
     let p = c .before .before .before .args .t1 in
     λ l e. owner-at l (p .depth) (p .above) e (c .before .before .before .args .d) (c .before .before .if1 .left) (c .before .if2 .left) (omega arith)
 
 pub owner-spec : {M : Type 1} → statement M
-owner-spec = tie.close (tie.spec returns returns-2 sub-i mul-t6 element-copy-out-t11 returns-3)
+owner-spec = tie.close (tie.spec returns returns-2 (λ c. search needs) (λ c. search needs) (λ c. search needs) returns-3)

@@ -6,24 +6,12 @@ use Rattle.load.proofs.Laws.Trees.{root-set-waiting, root-set-none, roo
 use Rattle.load.proofs.tree_lines.root_set_rule.Statement.{statement}
 use Rattle.load.proofs.tree_lines.root_set_rule.Tie as tie
 
-is-empty-requires : tie.Need-is-empty-requires
-is-empty-requires c κs = search needs
-
 returns : tie.Need-returns
 returns c = λ elements model. c .is-empty .ensures ∙ sym (root-set-waiting _ _ (c .before .if1 .taken))
-
-is-empty-requires-2 : tie.Need-is-empty-requires-2
-is-empty-requires-2 c κs = search needs
 
 returns-2 : tie.Need-returns-2
 returns-2 c =
     λ elements model. sym (root-set-none _ _ (c .before .before .if1 .left) (sym (c .before .is-empty2 .ensures) ∙ c .if2 .taken))
-
-declared-files-requires : tie.Need-declared-files-requires
-declared-files-requires c κs = search needs
-
-part-of-requires : tie.Need-part-of-requires
-part-of-requires c κs = search needs
 
 returns-3 : tie.Need-returns-3
 returns-3 c =
@@ -36,10 +24,10 @@ pub root-set-rule-spec : {M : Type 1} → statement M
 root-set-rule-spec =
     tie.close
     (tie.spec
-    is-empty-requires
+    (λ c κs. search needs)
     returns
-    is-empty-requires-2
+    (λ c κs. search needs)
     returns-2
-    declared-files-requires
-    part-of-requires
+    (λ c κs. search needs)
+    (λ c κs. search needs)
     returns-3)

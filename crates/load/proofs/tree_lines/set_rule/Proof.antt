@@ -6,17 +6,8 @@ use Rattle.load.proofs.Laws.Trees.{set-waiting, set-model}
 use Rattle.load.proofs.tree_lines.set_rule.Statement.{statement}
 use Rattle.load.proofs.tree_lines.set_rule.Tie as tie
 
-is-empty-requires : tie.Need-is-empty-requires
-is-empty-requires c κs = search needs
-
 returns : tie.Need-returns
 returns c = λ schema elements. c .is-empty .ensures ∙ sym (set-waiting _ _ (c .before .if1 .taken))
-
-loaded-files-requires : tie.Need-loaded-files-requires
-loaded-files-requires c κs = search needs
-
-part-of-requires : tie.Need-part-of-requires
-part-of-requires c κs = search needs
 
 returns-2 : tie.Need-returns-2
 returns-2 c =
@@ -25,4 +16,4 @@ returns-2 c =
 
 pub set-rule-spec : {M : Type 1} → statement M
 set-rule-spec =
-    tie.close (tie.spec is-empty-requires returns loaded-files-requires part-of-requires returns-2)
+    tie.close (tie.spec (λ c κs. search needs) returns (λ c κs. search needs) (λ c κs. search needs) returns-2)

@@ -5,7 +5,7 @@ use mathlib.Core.List.{[], _∷_, _++_}
 use mathlib.Core.Path.{ap, _∙_}
 use native.Mathlib.Nat.{mod-lt}
 use native.Mathlib.Omega.{arith}
-use Rattle.merge.specs.Program.{digitsBefore}
+use Rattle.merge_rules.specs.Program.{digitsBefore}
 use Rattle.printing.proofs.Laws.Buffers.{then, reads}
 use Rattle.printing.proofs.Laws.Digits.{div-less, one-digit, more-digits}
 use borrow.Fn.Kinds.{In}

@@ -8,17 +8,8 @@ use Rattle.printing.proofs.buffer.append_byte.Tie as tie
 returns : tie.Need-returns
 returns c = byte-none (c .before .args .out .now) (c .before .args .at) (c .before .args .b) (c .if1 .taken) (c .before .pre)
 
-slice-write-out : tie.Need-slice-write-out
-slice-write-out c = search needs
-
-add-result : tie.Need-add-result
-add-result c = search needs
-
-same-length : tie.Need-same-length
-same-length c = search needs
-
 returns-2 : tie.Need-returns-2
 returns-2 c = byte-more (c .before .args .out .now) (c .before .args .at) (c .before .args .b) (omega arith)
 
 pub append-byte-spec : {M : Type 1} → statement M
-append-byte-spec = tie.close (tie.spec returns slice-write-out add-result same-length returns-2)
+append-byte-spec = tie.close (tie.spec returns (λ c. search needs) (λ c. search needs) (λ c. search needs) returns-2)

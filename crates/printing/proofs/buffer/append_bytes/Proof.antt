@@ -15,17 +15,8 @@ abbrev μ-loop : tie.MeasureT-loop
 loop-holds : tie.Need-loop-holds Inv-loop μ-loop
 loop-holds c = (search needs, begin (c .before .before .args .out .now) (c .before .before .args .at) (c .before .before .args .text .now) (c .before .before .pre))
 
-shared-slice-read-append-byte : tie.Need-shared-slice-read-append-byte Inv-loop μ-loop
-shared-slice-read-append-byte c = search needs
-
 append-byte-requires : tie.Need-append-byte-requires Inv-loop μ-loop
 append-byte-requires c κs = c .before .before .before .loop .inv .1 .within
-
-add-i : tie.Need-add-i Inv-loop μ-loop
-add-i c = search needs
-
-loop-less : tie.Need-loop-less Inv-loop μ-loop
-loop-less c = search needs
 
 loop-again : tie.Need-loop-again Inv-loop μ-loop
 loop-again c =
@@ -44,10 +35,10 @@ append-bytes-spec =
     Inv-loop
     μ-loop
     loop-holds
-    shared-slice-read-append-byte
+    (λ c. search needs)
     append-byte-requires
-    add-i
-    loop-less
+    (λ c. search needs)
+    (λ c. search needs)
     loop-again
     same-length
     returns)

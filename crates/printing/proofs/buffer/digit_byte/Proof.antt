@@ -1,25 +1,13 @@
 -- `buffer::digit_byte` meets its contract. Assumes nothing.
 use borrow.Author.Tests.{lt-ltb, le-ltb}
-use Rattle.merge.specs.Program.{digitByte}
+use Rattle.merge_rules.specs.Program.{digitByte}
 use borrow.Author.Needs.{needs}
 use Rattle.printing.proofs.buffer.digit_byte.Statement.{statement}
 use Rattle.printing.proofs.buffer.digit_byte.Tie as tie
 
-cast-result : tie.Need-cast-result
-cast-result c = search needs
-
-add-result : tie.Need-add-result
-add-result c = search needs
-
 returns : tie.Need-returns
 unfolding digitByte
 returns c = rw (digitByte, lt-ltb (c .before .args .d) 10 (c .if1 .taken))
-
-cast-result-2 : tie.Need-cast-result-2
-cast-result-2 c = search needs
-
-add-result-2 : tie.Need-add-result-2
-add-result-2 c = search needs
 
 returns-2 : tie.Need-returns-2
 unfolding digitByte
@@ -27,4 +15,4 @@ returns-2 c = rw (digitByte, le-ltb (c .before .args .d) 10 (c .if1 .left))
 
 pub digit-byte-spec : {M : Type 1} → statement M
 digit-byte-spec =
-    tie.close (tie.spec cast-result add-result returns cast-result-2 add-result-2 returns-2)
+    tie.close (tie.spec (λ c. search needs) (λ c. search needs) returns (λ c. search needs) (λ c. search needs) returns-2)

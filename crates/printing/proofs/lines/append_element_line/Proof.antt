@@ -7,21 +7,6 @@ use borrow.Author.Needs.{needs}
 use Rattle.printing.proofs.lines.append_element_line.Statement.{statement}
 use Rattle.printing.proofs.lines.append_element_line.Tie as tie
 
-element-depth-requires : tie.Need-element-depth-requires
-element-depth-requires c κs = search needs
-
-element-name-requires : tie.Need-element-name-requires
-element-name-requires c κs = search needs
-
-set-of-requires : tie.Need-set-of-requires
-set-of-requires c κs = search needs
-
-append-row-requires : tie.Need-append-row-requires
-append-row-requires c κs = search needs
-
-same-length : tie.Need-same-length
-same-length c = search needs
-
 returns : tie.Need-returns
 returns c =
     let s = c .before .before .before .before .before .before .before .before .before .before .before in
@@ -40,9 +25,9 @@ pub append-element-line-spec : {M : Type 1} → statement M
 append-element-line-spec =
     tie.close
     (tie.spec
-    element-depth-requires
-    element-name-requires
-    set-of-requires
-    append-row-requires
-    same-length
+    (λ c κs. search needs)
+    (λ c κs. search needs)
+    (λ c κs. search needs)
+    (λ c κs. search needs)
+    (λ c. search needs)
     returns)

@@ -5,24 +5,6 @@ use borrow.Author.Needs.{needs}
 use Rattle.printing.proofs.lines.append_row.Statement.{statement}
 use Rattle.printing.proofs.lines.append_row.Tie as tie
 
-slice-aggregate-append-bytes : tie.Need-slice-aggregate-append-bytes
-slice-aggregate-append-bytes c = search needs
-
-append-bytes-requires : tie.Need-append-bytes-requires
-append-bytes-requires c κs = search needs
-
-append-number-requires : tie.Need-append-number-requires
-append-number-requires c κs = search needs
-
-append-number-requires-2 : tie.Need-append-number-requires-2
-append-number-requires-2 c κs = search needs
-
-append-number-requires-3 : tie.Need-append-number-requires-3
-append-number-requires-3 c κs = search needs
-
-same-length : tie.Need-same-length
-same-length c = search needs
-
 returns : tie.Need-returns
 returns c =
     let s = c .before .before .before .before .before .before .before .before .before .before .before .before .before .before .before .before .before .before in
@@ -36,10 +18,10 @@ pub append-row-spec : {M : Type 1} → statement M
 append-row-spec =
     tie.close
     (tie.spec
-    slice-aggregate-append-bytes
-    append-bytes-requires
-    append-number-requires
-    append-number-requires-2
-    append-number-requires-3
-    same-length
+    (λ c. search needs)
+    (λ c κs. search needs)
+    (λ c κs. search needs)
+    (λ c κs. search needs)
+    (λ c κs. search needs)
+    (λ c. search needs)
     returns)

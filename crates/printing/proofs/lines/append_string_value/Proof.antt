@@ -6,33 +6,6 @@ use borrow.Author.Needs.{needs}
 use Rattle.printing.proofs.lines.append_string_value.Statement.{statement}
 use Rattle.printing.proofs.lines.append_string_value.Tie as tie
 
-add-end : tie.Need-add-end
-add-end c = search needs
-
-slice-aggregate-append-bytes : tie.Need-slice-aggregate-append-bytes
-slice-aggregate-append-bytes c = search needs
-
-append-bytes-requires : tie.Need-append-bytes-requires
-append-bytes-requires c κs = search needs
-
-sub-append-bytes : tie.Need-sub-append-bytes
-sub-append-bytes c = search needs
-
-part-append-bytes-start : tie.Need-part-append-bytes-start
-part-append-bytes-start c = search needs
-
-part-append-bytes-end : tie.Need-part-append-bytes-end
-part-append-bytes-end c = search needs
-
-append-bytes-requires-2 : tie.Need-append-bytes-requires-2
-append-bytes-requires-2 c κs = search needs
-
-append-byte-requires : tie.Need-append-byte-requires
-append-byte-requires c κs = search needs
-
-same-length : tie.Need-same-length
-same-length c = search needs
-
 returns : tie.Need-returns
 returns c =
     let s = c .before .before .before .before .before .before .before .before .before .before .before .before .before .before .before .before in
@@ -45,13 +18,13 @@ pub append-string-value-spec : {M : Type 1} → statement M
 append-string-value-spec =
     tie.close
     (tie.spec
-    add-end
-    slice-aggregate-append-bytes
-    append-bytes-requires
-    sub-append-bytes
-    part-append-bytes-start
-    part-append-bytes-end
-    append-bytes-requires-2
-    append-byte-requires
-    same-length
+    (λ c. search needs)
+    (λ c. search needs)
+    (λ c κs. search needs)
+    (λ c. search needs)
+    (λ c. search needs)
+    (λ c. search needs)
+    (λ c κs. search needs)
+    (λ c κs. search needs)
+    (λ c. search needs)
     returns)

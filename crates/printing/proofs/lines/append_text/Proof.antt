@@ -6,21 +6,6 @@ use borrow.Author.Needs.{needs}
 use Rattle.printing.proofs.lines.append_text.Statement.{statement}
 use Rattle.printing.proofs.lines.append_text.Tie as tie
 
-slice-aggregate-append-bytes : tie.Need-slice-aggregate-append-bytes
-slice-aggregate-append-bytes c = search needs
-
-append-bytes-requires : tie.Need-append-bytes-requires
-append-bytes-requires c κs = search needs
-
-append-number-requires : tie.Need-append-number-requires
-append-number-requires c κs = search needs
-
-append-value-requires : tie.Need-append-value-requires
-append-value-requires c κs = search needs
-
-same-length : tie.Need-same-length
-same-length c = search needs
-
 returns : tie.Need-returns
 returns c =
     let s = c .before .before .before .before .before .before .before .before .before .before .before .before .before .before .before in
@@ -33,9 +18,9 @@ pub append-text-spec : {M : Type 1} → statement M
 append-text-spec =
     tie.close
     (tie.spec
-    slice-aggregate-append-bytes
-    append-bytes-requires
-    append-number-requires
-    append-value-requires
-    same-length
+    (λ c. search needs)
+    (λ c κs. search needs)
+    (λ c κs. search needs)
+    (λ c κs. search needs)
+    (λ c. search needs)
     returns)

@@ -10,20 +10,11 @@ use borrow.Author.Needs.{needs}
 use Rattle.printing.proofs.lines.append_text_line.Statement.{statement}
 use Rattle.printing.proofs.lines.append_text_line.Tie as tie
 
-text-kind-requires : tie.Need-text-kind-requires
-text-kind-requires c κs = search needs
-
-text-value-requires : tie.Need-text-value-requires
-text-value-requires c κs = search needs
-
 append-text-requires : tie.Need-append-text-requires
 append-text-requires c κs =
     let s = c .before .before .before .before .before .before .before in
     let t = getD (elementsOf (s .args .elements .now) .texts) (s .args .t) (enumNumber 0) in
     (s .pre .1 .1, text-within t (c .before .before .text-kind .ensures) (c .before .text-value .ensures) (text-fits (s .pre .0) (s .args .t) (s .pre .1 .0)) (length (s .args .deck .now)) (s .pre .0 .strings (s .args .t) (s .pre .1 .0)))
-
-same-length : tie.Need-same-length
-same-length c = search needs
 
 returns : tie.Need-returns
 returns c =
@@ -38,4 +29,4 @@ returns c =
 pub append-text-line-spec : {M : Type 1} → statement M
 append-text-line-spec =
     tie.close
-    (tie.spec text-kind-requires text-value-requires append-text-requires same-length returns)
+    (tie.spec (λ c κs. search needs) (λ c κs. search needs) append-text-requires (λ c. search needs) returns)

@@ -5,44 +5,23 @@ use borrow.Author.Needs.{needs}
 use Rattle.printing.proofs.lines.append_value.Statement.{statement}
 use Rattle.printing.proofs.lines.append_value.Tie as tie
 
-append-number-value-requires : tie.Need-append-number-value-requires
-append-number-value-requires c κs = search needs
-
 append-string-value-requires : tie.Need-append-string-value-requires
 append-string-value-requires c κs = (c .before .before .before .before .pre .0, c .before .before .before .before .pre .1 (c .before .match .keys2))
-
-append-number-value-requires-2 : tie.Need-append-number-value-requires-2
-append-number-value-requires-2 c κs = search needs
-
-append-number-value-requires-3 : tie.Need-append-number-value-requires-3
-append-number-value-requires-3 c κs = search needs
-
-same-length : tie.Need-same-length
-same-length c = search needs
 
 returns : tie.Need-returns
 returns c =
     let s = c .before .before .before .before .before .before .before in
     λ x d. reads (value-enum x (s .args .kind) (s .args .value) (c .before .before .before .before .match .keys1)) (c .before .before .append-number-value .ensures)
 
-same-length-2 : tie.Need-same-length-2
-same-length-2 c = search needs
-
 returns-2 : tie.Need-returns-2
 returns-2 c =
     let s = c .before .before .before .before .before .before .before in
     λ x d. reads (value-string x (s .args .kind) (s .args .value) (s .args .deck .now) d (c .before .before .before .before .match .keys2)) (c .before .before .append-string-value .ensures)
 
-same-length-3 : tie.Need-same-length-3
-same-length-3 c = search needs
-
 returns-3 : tie.Need-returns-3
 returns-3 c =
     let s = c .before .before .before .before .before .before .before in
     λ x d. reads (value-whole x (s .args .kind) (s .args .value) (c .before .before .before .before .match .keys3)) (c .before .before .append-number-value2 .ensures)
-
-same-length-4 : tie.Need-same-length-4
-same-length-4 c = search needs
 
 returns-4 : tie.Need-returns-4
 returns-4 c =
@@ -53,15 +32,15 @@ pub append-value-spec : {M : Type 1} → statement M
 append-value-spec =
     tie.close
     (tie.spec
-    append-number-value-requires
+    (λ c κs. search needs)
     append-string-value-requires
-    append-number-value-requires-2
-    append-number-value-requires-3
-    same-length
+    (λ c κs. search needs)
+    (λ c κs. search needs)
+    (λ c. search needs)
     returns
-    same-length-2
+    (λ c. search needs)
     returns-2
-    same-length-3
+    (λ c. search needs)
     returns-3
-    same-length-4
+    (λ c. search needs)
     returns-4)

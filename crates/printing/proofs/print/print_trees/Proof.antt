@@ -5,9 +5,6 @@ use borrow.Author.Needs.{needs}
 use Rattle.printing.proofs.print.print_trees.Statement.{statement}
 use Rattle.printing.proofs.print.print_trees.Tie as tie
 
-lent-tables-pass-requires : tie.Need-lent-tables-pass-requires
-lent-tables-pass-requires c κs = search needs
-
 returns : tie.Need-returns
 returns c =
     let a = c .before .before .before .before .before .before .before .before .args in
@@ -19,9 +16,6 @@ append-trees-requires c κs =
     let p = passed (c .before .before .lent-tables-pass .ensures) (c .before .if1 .left) in
     (readable (a .deck .now) (a .schema .now) (a .elements .now) (a .model .now) (a .log .now) (passed-tables (a .deck .now) (a .schema .now) (a .elements .now) (a .model .now) (a .log .now) p), (root-there (a .deck .now) (a .schema .now) (a .elements .now) (a .model .now) (a .log .now) p, search needs))
 
-same-length : tie.Need-same-length
-same-length c = search needs
-
 returns-2 : tie.Need-returns-2
 returns-2 c =
     let a = c .before .before .before .before .before .before .before .before .before .before .before .before .args in
@@ -30,4 +24,4 @@ returns-2 c =
 pub print-trees-spec : {M : Type 1} → statement M
 print-trees-spec =
     tie.close
-    (tie.spec lent-tables-pass-requires returns append-trees-requires same-length returns-2)
+    (tie.spec (λ c κs. search needs) returns append-trees-requires (λ c. search needs) returns-2)

@@ -9,7 +9,7 @@ use lib.ListN.{length, drop}
 use Rattle.tables.specs.Records.{Item, depthOf, listOf}
 use Rattle.tables.specs.ModelTable.{modelOf}
 use Rattle.state_test.specs.StateTest.{fixedIn}
-use Rattle.merge.specs.Program.{itemLines, elementLines}
+use Rattle.merge_rules.specs.Program.{itemLines, elementLines}
 use Rattle.printing.proofs.Laws.Buffers.{then, reads, nothing, Leaves, begin}
 use Rattle.printing.proofs.Laws.Trees.{elements-none, elements-more, child-lines, text-lines, items-turn, items-end, listed-in, child-in, text-in}
 use borrow.Fn.Kinds.{In}
@@ -114,16 +114,10 @@ append-element-append-element-line-requires :
     (t : ℕ) → append-element-lts.Need-append-element-line-requires (append-element-has t) (append-element-at t) append-element.Post
 append-element-append-element-line-requires t c κs = c .before .before .before .before .before .before .pre .1
 
-append-element-sub-append-items : (t : ℕ) → append-element-lts.Need-sub-append-items (append-element-has t) (append-element-at t) append-element.Post
-append-element-sub-append-items t c = search needs
-
 append-element-append-items-requires : (t : ℕ) → append-element-lts.Need-append-items-requires (append-element-has t) (append-element-at t) append-element.Post
 append-element-append-items-requires t c κs =
     let s = c .before .before .before .before .before .before .before .before .before .before in
     (omega (arith, s .pre .0, c .before .before .before .before .before .if1 .left), (s .pre .1 .0, (s .pre .1 .1 .0, c .before .before .before .append-element-line .ensures [] .within)))
-
-append-element-same-length : (t : ℕ) → append-element-lts.Need-same-length (append-element-has t) (append-element-at t) append-element.Post
-append-element-same-length t c = search needs
 
 append-element-returns-2 : (t : ℕ) → append-element-lts.Need-returns-2 (append-element-has t) (append-element-at t) append-element.Post
 append-element-returns-2 t c =
@@ -133,24 +127,15 @@ append-element-returns-2 t c =
     (elements-more (s .args .left) (fixedIn (s .args .deck .now) schema (s .args .elements .now)) (modelOf (s .args .model .now)) (s .args .e) (c .before .before .before .before .before .before .before .before .if1 .left))
     (then (c .before .before .before .before .before .before .append-element-line .ensures schema) (c .before .before .append-items .ensures schema))
 
-append-item-enum-known-a : (t : ℕ) → append-item-lts.Need-enum-known-a (append-item-has t) (append-item-at t) append-item.Post
-append-item-enum-known-a t c = search needs
-
 append-item-append-element-requires : (t : ℕ) → append-item-lts.Need-append-element-requires (append-item-has t) (append-item-at t) append-item.Post
 append-item-append-element-requires t c κs =
     let s = c .before .before .before .before .before .before .before .before in
     (omega (arith, s .pre .0), (s .pre .1 .0, (child-in (s .pre .1 .0) (s .args .a) _ (c .before .before .a .given .1) (s .pre .1 .1 .0), s .pre .1 .1 .1)))
 
-append-item-enum-known-a-2 : (t : ℕ) → append-item-lts.Need-enum-known-a-2 (append-item-has t) (append-item-at t) append-item.Post
-append-item-enum-known-a-2 t c = search needs
-
 append-item-append-text-line-requires : (t : ℕ) → append-item-lts.Need-append-text-line-requires (append-item-has t) (append-item-at t) append-item.Post
 append-item-append-text-line-requires t c κs =
     let s = c .before .before .before .before .before .before .before .before in
     (s .pre .1 .0, (text-in (s .pre .1 .0) (s .args .a) _ (c .before .before .a2 .given .1) (s .pre .1 .1 .0), s .pre .1 .1 .1))
-
-append-item-same-length : (t : ℕ) → append-item-lts.Need-same-length (append-item-has t) (append-item-at t) append-item.Post
-append-item-same-length t c = search needs
 
 append-item-returns : (t : ℕ) → append-item-lts.Need-returns (append-item-has t) (append-item-at t) append-item.Post
 append-item-returns t c =
@@ -159,9 +144,6 @@ append-item-returns t c =
     reads
     (child-lines (elementLines (s .args .left) (fixedIn (s .args .deck .now) schema (s .args .elements .now)) (modelOf (s .args .model .now))) (fixedIn (s .args .deck .now) schema (s .args .elements .now)) (s .args .depth) (s .args .a) _ (c .before .before .before .before .before .a .given .1))
     (c .before .before .append-element .ensures schema)
-
-append-item-same-length-2 : (t : ℕ) → append-item-lts.Need-same-length-2 (append-item-has t) (append-item-at t) append-item.Post
-append-item-same-length-2 t c = search needs
 
 append-item-returns-2 : (t : ℕ) → append-item-lts.Need-returns-2 (append-item-has t) (append-item-at t) append-item.Post
 append-item-returns-2 t c =
@@ -188,14 +170,8 @@ append-items-Inv-loop deck elements model out₀ at e left depth n k₀ i₀ out
 abbrev append-items-μ-loop : append-items-lts.MeasureT-loop
 append-items-μ-loop deck elements model out₀ at e left depth n k₀ i₀ out k i = n - i
 
-append-items-element-depth-requires : (t : ℕ) → append-items-lts.Need-element-depth-requires (append-items-has t) (append-items-at t) append-items.Post append-items-Inv-loop append-items-μ-loop
-append-items-element-depth-requires t c κs = search needs
-
 append-items-add-depth : (t : ℕ) → append-items-lts.Need-add-depth (append-items-has t) (append-items-at t) append-items.Post append-items-Inv-loop append-items-μ-loop
 append-items-add-depth t c = let s = c .before .before .before .before .before in omega (arith, c .element-depth .ensures, s .pre .1 .0 .low (s .args .e) (s .pre .1 .1 .0))
-
-append-items-list-length-requires : (t : ℕ) → append-items-lts.Need-list-length-requires (append-items-has t) (append-items-at t) append-items.Post append-items-Inv-loop append-items-μ-loop
-append-items-list-length-requires t c κs = search needs
 
 append-items-loop-holds : (t : ℕ) → append-items-lts.Need-loop-holds (append-items-has t) (append-items-at t) append-items.Post append-items-Inv-loop append-items-μ-loop
 append-items-loop-holds t c = let s = c .before .before .before .before .before .before in (search needs, λ schema. begin (s .args .out .now) (s .args .at) _ (s .pre .1 .1 .1))
@@ -208,12 +184,6 @@ append-items-append-item-requires t c κs =
     let s = c .before .before .before .before .before .before .before .before .before .before in
     let l : c .before .before .before .loop .i < length (listOf (modelOf (s .args .model .now)) (s .args .e)) = omega (arith, c .before .before .before .before .list-length .ensures) in
     (omega (arith, s .pre .0), (s .pre .1 .0, (listed-in (s .pre .1 .0) (s .args .e) (c .before .before .before .loop .i) _ l (c .before .item-at .ensures), c .before .before .before .loop .inv .1 [] .within)))
-
-append-items-add-i : (t : ℕ) → append-items-lts.Need-add-i (append-items-has t) (append-items-at t) append-items.Post append-items-Inv-loop append-items-μ-loop
-append-items-add-i t c = search needs
-
-append-items-loop-less : (t : ℕ) → append-items-lts.Need-loop-less (append-items-has t) (append-items-at t) append-items.Post append-items-Inv-loop append-items-μ-loop
-append-items-loop-less t c = search needs
 
 append-items-loop-again : (t : ℕ) → append-items-lts.Need-loop-again (append-items-has t) (append-items-at t) append-items.Post append-items-Inv-loop append-items-μ-loop
 append-items-loop-again t c =
@@ -261,21 +231,21 @@ pub +append-element+append-item+append-items-spec : {M : Type 1} → statement M
     append-element.Post
     (append-element-returns t)
     (append-element-append-element-line-requires t)
-    (append-element-sub-append-items t)
+    (λ c. search needs)
     (append-element-append-items-requires t)
-    (append-element-same-length t)
+    (λ c. search needs)
     (append-element-returns-2 t))
     (λ t. append-item-lts.spec
     (append-item-has t)
     (append-item-at t)
     append-item.Post
-    (append-item-enum-known-a t)
+    (λ c. search needs)
     (append-item-append-element-requires t)
-    (append-item-enum-known-a-2 t)
+    (λ c. search needs)
     (append-item-append-text-line-requires t)
-    (append-item-same-length t)
+    (λ c. search needs)
     (append-item-returns t)
-    (append-item-same-length-2 t)
+    (λ c. search needs)
     (append-item-returns-2 t))
     λ t. append-items-lts.spec
     (append-items-has t)
@@ -283,14 +253,14 @@ pub +append-element+append-item+append-items-spec : {M : Type 1} → statement M
     append-items.Post
     append-items-Inv-loop
     append-items-μ-loop
-    (append-items-element-depth-requires t)
+    (λ c κs. search needs)
     (append-items-add-depth t)
-    (append-items-list-length-requires t)
+    (λ c κs. search needs)
     (append-items-loop-holds t)
     (append-items-item-at-requires t)
     (append-items-append-item-requires t)
-    (append-items-add-i t)
-    (append-items-loop-less t)
+    (λ c. search needs)
+    (λ c. search needs)
     (append-items-loop-again t)
     (append-items-same-length t)
     (append-items-returns t)

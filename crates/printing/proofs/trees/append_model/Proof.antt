@@ -7,16 +7,10 @@ use borrow.Author.Needs.{needs}
 use Rattle.printing.proofs.trees.append_model.Statement.{statement}
 use Rattle.printing.proofs.trees.append_model.Tie as tie
 
-append-element-requires : tie.Need-append-element-requires
-append-element-requires c κs = search needs
-
-same-length : tie.Need-same-length
-same-length c = search needs
-
 returns : tie.Need-returns
 returns c =
     let s = c .before .before .before .before .before .before .before .before in
     λ schema. reads (model-parts (fixedIn (s .args .deck .now) schema (s .args .elements .now)) (modelOf (s .args .model .now))) (c .before .before .append-element .ensures schema)
 
 pub append-model-spec : {M : Type 1} → statement M
-append-model-spec = tie.close (tie.spec append-element-requires same-length returns)
+append-model-spec = tie.close (tie.spec (λ c κs. search needs) (λ c. search needs) returns)

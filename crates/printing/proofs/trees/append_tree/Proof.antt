@@ -9,28 +9,10 @@ use borrow.Author.Needs.{needs}
 use Rattle.printing.proofs.trees.append_tree.Statement.{statement}
 use Rattle.printing.proofs.trees.append_tree.Tie as tie
 
-tree-file-requires : tie.Need-tree-file-requires
-tree-file-requires c κs = search needs
-
-tree-root-requires : tie.Need-tree-root-requires
-tree-root-requires c κs = search needs
-
-slice-aggregate-append-bytes : tie.Need-slice-aggregate-append-bytes
-slice-aggregate-append-bytes c = search needs
-
-append-bytes-requires : tie.Need-append-bytes-requires
-append-bytes-requires c κs = search needs
-
-append-number-requires : tie.Need-append-number-requires
-append-number-requires c κs = search needs
-
 append-element-requires : tie.Need-append-element-requires
 append-element-requires c κs =
     let s = c .before .before .before .before .before .before .before .before .before .before .before .before .before .before .before .before in
     (s .pre .0, (rw (c .before .before .before .before .before .before .before .before .before .before .tree-root .ensures) (s .pre .0 .roots (s .args .t) (s .pre .1 .0)), c .before .before .before .append-number .ensures .within))
-
-same-length : tie.Need-same-length
-same-length c = search needs
 
 returns : tie.Need-returns
 returns c =
@@ -44,11 +26,11 @@ pub append-tree-spec : {M : Type 1} → statement M
 append-tree-spec =
     tie.close
     (tie.spec
-    tree-file-requires
-    tree-root-requires
-    slice-aggregate-append-bytes
-    append-bytes-requires
-    append-number-requires
+    (λ c κs. search needs)
+    (λ c κs. search needs)
+    (λ c. search needs)
+    (λ c κs. search needs)
+    (λ c κs. search needs)
     append-element-requires
-    same-length
+    (λ c. search needs)
     returns)

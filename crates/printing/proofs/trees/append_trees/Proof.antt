@@ -8,20 +8,11 @@ use borrow.Author.Needs.{needs}
 use Rattle.printing.proofs.trees.append_trees.Statement.{statement}
 use Rattle.printing.proofs.trees.append_trees.Tie as tie
 
-slice-aggregate-append-bytes : tie.Need-slice-aggregate-append-bytes
-slice-aggregate-append-bytes c = search needs
-
-append-bytes-requires : tie.Need-append-bytes-requires
-append-bytes-requires c κs = search needs
-
 append-model-requires : tie.Need-append-model-requires
 append-model-requires c κs = (c .before .before .before .before .before .before .before .before .before .before .pre .0, (c .before .before .before .before .before .before .before .before .before .before .pre .1 .0, c .before .before .before .append-bytes .ensures .within))
 
 append-waiting-requires : tie.Need-append-waiting-requires
 append-waiting-requires c κs = (c .before .before .before .before .before .before .before .before .before .before .before .before .before .before .pre .0, c .before .before .before .append-model .ensures [] .within)
-
-same-length : tie.Need-same-length
-same-length c = search needs
 
 returns : tie.Need-returns
 returns c =
@@ -35,9 +26,9 @@ pub append-trees-spec : {M : Type 1} → statement M
 append-trees-spec =
     tie.close
     (tie.spec
-    slice-aggregate-append-bytes
-    append-bytes-requires
+    (λ c. search needs)
+    (λ c κs. search needs)
     append-model-requires
     append-waiting-requires
-    same-length
+    (λ c. search needs)
     returns)

@@ -6,7 +6,7 @@ use lib.ListN.{length, drop}
 use Rattle.tables.specs.ElementsTable.{elementsOf}
 use Rattle.tables.specs.ModelTable.{modelOf}
 use Rattle.state_test.specs.StateTest.{fixedIn}
-use Rattle.merge.specs.DeckLines.{waitingLines}
+use Rattle.merge_rules.specs.DeckLines.{waitingLines}
 use Rattle.printing.proofs.Laws.Buffers.{Leaves, begin}
 use Rattle.printing.proofs.Laws.Trees.{waiting-turn, waiting-end}
 use borrow.Author.Needs.{needs}
@@ -22,9 +22,6 @@ Inv-loop deck elements model out₀ at n k₀ t₀ out k t =
 abbrev μ-loop : tie.MeasureT-loop
 μ-loop deck elements model out₀ at n k₀ t₀ out k t = n - t
 
-tree-count-requires : tie.Need-tree-count-requires Inv-loop μ-loop
-tree-count-requires c κs = search needs
-
 loop-holds : tie.Need-loop-holds Inv-loop μ-loop
 loop-holds c =
     let s = c .before .before .before .before .before in
@@ -33,12 +30,6 @@ loop-holds c =
 append-tree-requires : tie.Need-append-tree-requires Inv-loop μ-loop
 append-tree-requires c κs =
     (c .before .before .before .before .before .before .before .before .pre .0, (omega (arith, c .before .before .before .tree-count .ensures), c .before .before .loop .inv .1 [] .within))
-
-add-t : tie.Need-add-t Inv-loop μ-loop
-add-t c = search needs
-
-loop-less : tie.Need-loop-less Inv-loop μ-loop
-loop-less c = search needs
 
 loop-again : tie.Need-loop-again Inv-loop μ-loop
 loop-again c =
@@ -73,11 +64,11 @@ append-waiting-spec =
     (tie.spec
     Inv-loop
     μ-loop
-    tree-count-requires
+    (λ c κs. search needs)
     loop-holds
     append-tree-requires
-    add-t
-    loop-less
+    (λ c. search needs)
+    (λ c. search needs)
     loop-again
     same-length
     returns)

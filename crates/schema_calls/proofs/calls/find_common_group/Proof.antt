@@ -7,12 +7,6 @@ use borrow.Author.Needs.{needs}
 use Rattle.schema_calls.proofs.calls.find_common_group.Statement.{statement}
 use Rattle.schema_calls.proofs.calls.find_common_group.Tie as tie
 
-shared-requires : tie.Need-shared-requires
-shared-requires c κs = search needs
-
-mode-of-group-requires : tie.Need-mode-of-group-requires
-mode-of-group-requires c κs = search needs
-
 returns : tie.Need-returns
 unfolding findCommonGroup
 returns c =
@@ -20,4 +14,4 @@ returns c =
     c .mode-of-group .ensures ∙ ap (λ (x : SchemaPath). modeNumber (groupMode (schemaOf (s .schema .now)) (s .t .0) x)) (c .before .shared .ensures)
 
 pub find-common-group-spec : {M : Type 1} → statement M
-find-common-group-spec = tie.close (tie.spec shared-requires mode-of-group-requires returns)
+find-common-group-spec = tie.close (tie.spec (λ c κs. search needs) (λ c κs. search needs) returns)

@@ -22,19 +22,10 @@ loop-holds : tie.Need-loop-holds Inv-loop μ-loop
 unfolding groupAt groupsAbove
 loop-holds c = refl
 
-group-is-requires : tie.Need-group-is-requires Inv-loop μ-loop
-group-is-requires c κs = search needs
-
 returns : tie.Need-returns Inv-loop μ-loop
 returns c =
     let s = c .before .before .before .before .before .args in
     first-stop noGroup (schemaOf (s .schema .now) .groups) (s .above) (search needs) (c .before .before .before .loop .i) (groupIs (s .t .0) (partsOf (s .p))) (search needs) (sym (c .before .group-is .ensures) ∙ c .if1 .taken) (c .before .before .before .loop .inv)
-
-add-i : tie.Need-add-i Inv-loop μ-loop
-add-i c = search needs
-
-loop-less : tie.Need-loop-less Inv-loop μ-loop
-loop-less c = search needs
 
 loop-again : tie.Need-loop-again Inv-loop μ-loop
 loop-again c =
@@ -53,9 +44,9 @@ find-group-spec =
     Inv-loop
     μ-loop
     loop-holds
-    group-is-requires
+    (λ c κs. search needs)
     returns
-    add-i
-    loop-less
+    (λ c. search needs)
+    (λ c. search needs)
     loop-again
     returns-2)

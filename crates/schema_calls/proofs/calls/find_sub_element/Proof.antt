@@ -17,29 +17,17 @@ Inv-loop schema t n mask count i₀ i = firstOf (rowIs (t .0) (n .0) mask) (drop
 abbrev μ-loop : tie.MeasureT-loop
 μ-loop schema t n mask count i₀ i = count - i
 
-row-count-requires : tie.Need-row-count-requires Inv-loop μ-loop
-row-count-requires c κs = search needs
-
 loop-holds : tie.Need-loop-holds Inv-loop μ-loop
 unfolding findSubElement
 loop-holds c =
     let s = c .before .before .args in
     ap (firstOf (rowIs (s .t .0) (s .n .0) (s .mask))) (all-left (schemaOf (s .schema .now) .subElements) _ (c .row-count .ensures))
 
-row-is-requires : tie.Need-row-is-requires Inv-loop μ-loop
-row-is-requires c κs = search needs
-
 returns : tie.Need-returns Inv-loop μ-loop
 returns c =
     let s = c .before .before .before .before .before .before .args in
     first-stop noSubElement (schemaOf (s .schema .now) .subElements) (c .before .before .before .before .row-count .result) (search needs) (c .before .before .before .loop .i) (rowIs (s .t .0) (s .n .0) (s .mask)) (search needs)
     (sym (c .before .row-is .ensures) ∙ c .if1 .taken) (c .before .before .before .loop .inv)
-
-add-i : tie.Need-add-i Inv-loop μ-loop
-add-i c = search needs
-
-loop-less : tie.Need-loop-less Inv-loop μ-loop
-loop-less c = search needs
 
 loop-again : tie.Need-loop-again Inv-loop μ-loop
 loop-again c =
@@ -58,11 +46,11 @@ find-sub-element-spec =
     (tie.spec
     Inv-loop
     μ-loop
-    row-count-requires
+    (λ c κs. search needs)
     loop-holds
-    row-is-requires
+    (λ c κs. search needs)
     returns
-    add-i
-    loop-less
+    (λ c. search needs)
+    (λ c. search needs)
     loop-again
     returns-2)

@@ -7,19 +7,10 @@ use borrow.Author.Needs.{needs}
 use Rattle.schema_calls.proofs.calls.group_is.Statement.{statement}
 use Rattle.schema_calls.proofs.calls.group_is.Tie as tie
 
-group-type-requires : tie.Need-group-type-requires
-group-type-requires c κs = search needs
-
 returns : tie.Need-returns
 returns c =
     let s = c .before .before .before .before .before .args in
     group-other-type (getD (schemaOf (s .schema .now) .groups) (s .i) noGroup) (s .t .0) (partsOf (s .p)) (c .before .before .before .group-type .ensures) (c .if1 .taken)
-
-group-path-requires : tie.Need-group-path-requires
-group-path-requires c κs = search needs
-
-same-requires : tie.Need-same-requires
-same-requires c κs = search needs
 
 returns-2 : tie.Need-returns-2
 returns-2 c =
@@ -28,4 +19,4 @@ returns-2 c =
 
 pub group-is-spec : {M : Type 1} → statement M
 group-is-spec =
-    tie.close (tie.spec group-type-requires returns group-path-requires same-requires returns-2)
+    tie.close (tie.spec (λ c κs. search needs) returns (λ c κs. search needs) (λ c κs. search needs) returns-2)

@@ -8,15 +8,6 @@ use borrow.Author.Needs.{needs}
 use Rattle.schema_calls.proofs.calls.has_group.Statement.{statement}
 use Rattle.schema_calls.proofs.calls.has_group.Tie as tie
 
-find-group-requires : tie.Need-find-group-requires
-find-group-requires c κs = search needs
-
-enum-told : tie.Need-enum-told
-enum-told c = search needs
-
-enum-told-2 : tie.Need-enum-told-2
-enum-told-2 c = search needs
-
 returns : tie.Need-returns
 returns c =
     let s = c .before .before .before .before .args in
@@ -28,4 +19,4 @@ returns-2 c =
     has-none (groupsAbove (schemaOf (s .schema .now)) (s .above)) (s .t .0) (partsOf (s .p)) (found-missing (c .before .before .find-group .ensures) (c .enum-told2 .given .1))
 
 pub has-group-spec : {M : Type 1} → statement M
-has-group-spec = tie.close (tie.spec find-group-requires enum-told enum-told-2 returns returns-2)
+has-group-spec = tie.close (tie.spec (λ c κs. search needs) (λ c. search needs) (λ c. search needs) returns returns-2)

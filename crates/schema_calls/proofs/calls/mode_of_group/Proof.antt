@@ -8,31 +8,13 @@ use borrow.Author.Needs.{needs}
 use Rattle.schema_calls.proofs.calls.mode_of_group.Statement.{statement}
 use Rattle.schema_calls.proofs.calls.mode_of_group.Tie as tie
 
-type-mode-requires : tie.Need-type-mode-requires
-type-mode-requires c κs = search needs
-
 returns : tie.Need-returns
 returns c =
     let s = c .before .before .before .before .args in
     c .type-mode .ensures ∙ ap modeNumber (mode-empty (schemaOf (s .schema .now)) (s .t .0) (s .p .0) (s .p .1 ∷ s .p .2 ∷ s .p .3 ∷ []) (c .before .if1 .taken))
 
-group-count-requires : tie.Need-group-count-requires
-group-count-requires c κs = search needs
-
-find-group-requires : tie.Need-find-group-requires
-find-group-requires c κs = search needs
-
-enum-known-found : tie.Need-enum-known-found
-enum-known-found c = search needs
-
 group-mode-requires : tie.Need-group-mode-requires
 group-mode-requires c κs = (search needs, found-within (c .before .before .before .find-group .ensures) (c .before .found .given .1))
-
-enum-told : tie.Need-enum-told
-enum-told c = search needs
-
-type-mode-requires-2 : tie.Need-type-mode-requires-2
-type-mode-requires-2 c κs = search needs
 
 returns-2 : tie.Need-returns-2
 returns-2 c =
@@ -50,13 +32,13 @@ pub mode-of-group-spec : {M : Type 1} → statement M
 mode-of-group-spec =
     tie.close
     (tie.spec
-    type-mode-requires
+    (λ c κs. search needs)
     returns
-    group-count-requires
-    find-group-requires
-    enum-known-found
+    (λ c κs. search needs)
+    (λ c κs. search needs)
+    (λ c. search needs)
     group-mode-requires
-    enum-told
-    type-mode-requires-2
+    (λ c. search needs)
+    (λ c κs. search needs)
     returns-2
     returns-3)

@@ -6,24 +6,15 @@ use borrow.Author.Needs.{needs}
 use Rattle.schema_calls.proofs.calls.row_is.Statement.{statement}
 use Rattle.schema_calls.proofs.calls.row_is.Tie as tie
 
-row-type-requires : tie.Need-row-type-requires
-row-type-requires c κs = search needs
-
 returns : tie.Need-returns
 returns c =
     let s = c .before .before .before .before .before .args in
     row-other-type (getD (schemaOf (s .schema .now) .subElements) (s .i) noSubElement) (s .t .0) (s .n .0) (s .mask) (c .before .before .before .row-type .ensures) (c .if1 .taken)
 
-row-name-requires : tie.Need-row-name-requires
-row-name-requires c κs = search needs
-
 returns-2 : tie.Need-returns-2
 returns-2 c =
     let s = c .before .before .before .before .before .before .before .before .before .args in
     row-other-name (getD (schemaOf (s .schema .now) .subElements) (s .i) noSubElement) (s .t .0) (s .n .0) (s .mask) (c .before .before .before .before .before .before .before .row-type .ensures) (c .before .before .before .before .if1 .left) (c .before .before .before .row-name .ensures) (c .if2 .taken)
-
-row-mask-requires : tie.Need-row-mask-requires
-row-mask-requires c κs = search needs
 
 returns-3 : tie.Need-returns-3
 returns-3 c =
@@ -33,4 +24,4 @@ returns-3 c =
 pub row-is-spec : {M : Type 1} → statement M
 row-is-spec =
     tie.close
-    (tie.spec row-type-requires returns row-name-requires returns-2 row-mask-requires returns-3)
+    (tie.spec (λ c κs. search needs) returns (λ c κs. search needs) returns-2 (λ c κs. search needs) returns-3)

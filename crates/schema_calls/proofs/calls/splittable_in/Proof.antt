@@ -4,15 +4,9 @@ use borrow.Author.Needs.{needs}
 use Rattle.schema_calls.proofs.calls.splittable_in.Statement.{statement}
 use Rattle.schema_calls.proofs.calls.splittable_in.Tie as tie
 
-type-split-requires : tie.Need-type-split-requires
-type-split-requires c κs = search needs
-
-shr-result : tie.Need-shr-result
-shr-result c = search needs
-
 returns : tie.Need-returns
 unfolding splittableIn
 returns c = rw (c .type-split .ensures)
 
 pub splittable-in-spec : {M : Type 1} → statement M
-splittable-in-spec = tie.close (tie.spec type-split-requires shr-result returns)
+splittable-in-spec = tie.close (tie.spec (λ c κs. search needs) (λ c. search needs) returns)

@@ -18,25 +18,13 @@ Inv-loop schema s₀ i₀ s i = (i ≤ length (schemaOf schema .files)) × (s .0
 abbrev μ-loop : tie.MeasureT-loop
 μ-loop schema s₀ i₀ s i = i
 
-file-count-requires : tie.Need-file-count-requires Inv-loop μ-loop
-file-count-requires c κs = search needs
-
 loop-holds : tie.Need-loop-holds Inv-loop μ-loop
 loop-holds c = (search needs, files-none (schemaOf (c .before .before .args .schema .now) .files) _ (c .file-count .ensures))
-
-sub-i : tie.Need-sub-i Inv-loop μ-loop
-sub-i c = search needs
-
-file-number-requires : tie.Need-file-number-requires Inv-loop μ-loop
-file-number-requires c κs = search needs
 
 with-requires : tie.Need-with-requires Inv-loop μ-loop
 with-requires c κs =
     let b = c .before .before .before .before .before in
     rw (c .file-number .ensures) (each-getD (λ (d : File). d .file < fileLimit) (schemaOf (b .args .schema .now) .files) _ noFile (b .pre .1) (search needs))
-
-loop-less : tie.Need-loop-less Inv-loop μ-loop
-loop-less c = search needs
 
 loop-again : tie.Need-loop-again Inv-loop μ-loop
 loop-again c =
@@ -55,11 +43,11 @@ declared-files-spec =
     (tie.spec
     Inv-loop
     μ-loop
-    file-count-requires
+    (λ c κs. search needs)
     loop-holds
-    sub-i
-    file-number-requires
+    (λ c. search needs)
+    (λ c κs. search needs)
     with-requires
-    loop-less
+    (λ c. search needs)
     loop-again
     returns)

@@ -7,15 +7,6 @@ use borrow.Author.Needs.{needs}
 use Rattle.schema_calls.proofs.files.declares_file.Statement.{statement}
 use Rattle.schema_calls.proofs.files.declares_file.Tie as tie
 
-find-file-requires : tie.Need-find-file-requires
-find-file-requires c κs = search needs
-
-enum-told : tie.Need-enum-told
-enum-told c = search needs
-
-enum-told-2 : tie.Need-enum-told-2
-enum-told-2 c = search needs
-
 returns : tie.Need-returns
 unfolding declaresFile
 returns c =
@@ -30,4 +21,4 @@ returns-2 c =
 
 pub declares-file-spec : {M : Type 1} → statement M
 declares-file-spec =
-    tie.close (tie.spec find-file-requires enum-told enum-told-2 returns returns-2)
+    tie.close (tie.spec (λ c κs. search needs) (λ c. search needs) (λ c. search needs) returns returns-2)

@@ -17,28 +17,16 @@ Inv-loop schema f count i₀ i = firstOf (fileIs (f .0)) (drop i (take count (sc
 abbrev μ-loop : tie.MeasureT-loop
 μ-loop schema f count i₀ i = count - i
 
-file-count-requires : tie.Need-file-count-requires Inv-loop μ-loop
-file-count-requires c κs = search needs
-
 loop-holds : tie.Need-loop-holds Inv-loop μ-loop
 loop-holds c =
     let s = c .before .before .args in
     ap (firstOf (fileIs (s .f .0))) (all-left (schemaOf (s .schema .now) .files) _ (c .file-count .ensures))
-
-file-number-requires : tie.Need-file-number-requires Inv-loop μ-loop
-file-number-requires c κs = search needs
 
 returns : tie.Need-returns Inv-loop μ-loop
 returns c =
     let s = c .before .before .before .before .before .before .before .before .args in
     first-stop noFile (schemaOf (s .schema .now) .files) (c .before .before .before .before .before .before .file-count .result) (search needs) (c .before .before .before .before .before .loop .i) (fileIs (s .f .0)) (search needs)
     (eq-eqb _ _ (sym (c .before .before .before .file-number .ensures) ∙ c .if1 .taken)) (c .before .before .before .before .before .loop .inv)
-
-add-i : tie.Need-add-i Inv-loop μ-loop
-add-i c = search needs
-
-loop-less : tie.Need-loop-less Inv-loop μ-loop
-loop-less c = search needs
 
 loop-again : tie.Need-loop-again Inv-loop μ-loop
 loop-again c =
@@ -57,11 +45,11 @@ find-file-spec =
     (tie.spec
     Inv-loop
     μ-loop
-    file-count-requires
+    (λ c κs. search needs)
     loop-holds
-    file-number-requires
+    (λ c κs. search needs)
     returns
-    add-i
-    loop-less
+    (λ c. search needs)
+    (λ c. search needs)
     loop-again
     returns-2)

@@ -16,29 +16,11 @@ Inv-loop schema s v count least₀ i₀ least i = leastFrom (s .0) least (drop i
 abbrev μ-loop : tie.MeasureT-loop
 μ-loop schema s v count least₀ i₀ least i = count - i
 
-file-count-requires : tie.Need-file-count-requires Inv-loop μ-loop
-file-count-requires c κs = search needs
-
 loop-holds : tie.Need-loop-holds Inv-loop μ-loop
 unfolding leastVersion
 loop-holds c =
     let s = c .before .before .args in
     ap (leastFrom (s .s .0) (s .v)) (all-left (schemaOf (s .schema .now) .files) _ (c .file-count .ensures))
-
-file-number-requires : tie.Need-file-number-requires Inv-loop μ-loop
-file-number-requires c κs = search needs
-
-file-version-requires : tie.Need-file-version-requires Inv-loop μ-loop
-file-version-requires c κs = search needs
-
-least-with-requires : tie.Need-least-with-requires Inv-loop μ-loop
-least-with-requires c κs = search needs
-
-add-i : tie.Need-add-i Inv-loop μ-loop
-add-i c = search needs
-
-loop-less : tie.Need-loop-less Inv-loop μ-loop
-loop-less c = search needs
 
 loop-again : tie.Need-loop-again Inv-loop μ-loop
 loop-again c =
@@ -56,12 +38,12 @@ least-version-spec =
     (tie.spec
     Inv-loop
     μ-loop
-    file-count-requires
+    (λ c κs. search needs)
     loop-holds
-    file-number-requires
-    file-version-requires
-    least-with-requires
-    add-i
-    loop-less
+    (λ c κs. search needs)
+    (λ c κs. search needs)
+    (λ c κs. search needs)
+    (λ c. search needs)
+    (λ c. search needs)
     loop-again
     returns)

@@ -6,9 +6,6 @@ use borrow.Author.Needs.{needs}
 use Rattle.schema_calls.proofs.files.least_with.Statement.{statement}
 use Rattle.schema_calls.proofs.files.least_with.Tie as tie
 
-holds-requires : tie.Need-holds-requires
-holds-requires c κs = search needs
-
 returns : tie.Need-returns
 returns c =
     let s = c .before .before .args in
@@ -25,4 +22,4 @@ returns-3 c =
     least-new (s .s .0) (s .f .0) (s .v) (s .w) (sym (c .before .before .holds .ensures) ∙ not-false (c .before .before .holds .result) (c .before .if1 .left)) (c .if2 .left)
 
 pub least-with-spec : {M : Type 1} → statement M
-least-with-spec = tie.close (tie.spec holds-requires returns returns-2 returns-3)
+least-with-spec = tie.close (tie.spec (λ c κs. search needs) returns returns-2 returns-3)

@@ -7,17 +7,8 @@ use borrow.Author.Needs.{needs}
 use Rattle.schema_calls.proofs.files.version_of.Statement.{statement}
 use Rattle.schema_calls.proofs.files.version_of.Tie as tie
 
-find-file-requires : tie.Need-find-file-requires
-find-file-requires c κs = search needs
-
-enum-known-found : tie.Need-enum-known-found
-enum-known-found c = search needs
-
 file-version-requires : tie.Need-file-version-requires
 file-version-requires c κs = (search needs, found-within (c .before .before .before .find-file .ensures) (c .before .found .given .1))
-
-enum-told : tie.Need-enum-told
-enum-told c = search needs
 
 returns : tie.Need-returns
 returns c =
@@ -33,9 +24,9 @@ pub version-of-spec : {M : Type 1} → statement M
 version-of-spec =
     tie.close
     (tie.spec
-    find-file-requires
-    enum-known-found
+    (λ c κs. search needs)
+    (λ c. search needs)
     file-version-requires
-    enum-told
+    (λ c. search needs)
     returns
     returns-2)

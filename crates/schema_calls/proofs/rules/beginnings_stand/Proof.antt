@@ -19,9 +19,6 @@ returns-2 c =
     let s = c .before .before .before .args in
     every-one (hasGroup (groupsAbove (schemaOf (s .schema .now)) (s .above)) (s .t .0)) (s .p .0) (s .p .1) (s .p .2) (s .p .3) (c .if2 .taken)
 
-has-group-requires : tie.Need-has-group-requires
-has-group-requires c κs = search needs
-
 returns-3 : tie.Need-returns-3
 returns-3 c =
     let s = c .before .before .before .before .before .args in
@@ -40,9 +37,6 @@ returns-4 c =
     (c .before .before .before .if2 .left)
     (sym (first .ensures) ∙ not-false (first .result) (c .before .if3 .left))
     (c .if4 .taken)
-
-has-group-requires-2 : tie.Need-has-group-requires-2
-has-group-requires-2 c κs = search needs
 
 returns-5 : tie.Need-returns-5
 returns-5 c =
@@ -69,9 +63,6 @@ returns-6 c =
     (sym (second .ensures) ∙ not-false (second .result) (c .before .before .if5 .left))
     (c .if6 .taken)
 
-has-group-requires-3 : tie.Need-has-group-requires-3
-has-group-requires-3 c κs = search needs
-
 returns-7 : tie.Need-returns-7
 returns-7 c =
     let s = c .before .before .before .before .before .before .before .before .before .before .before .args in
@@ -92,11 +83,11 @@ beginnings-stand-spec =
     (tie.spec
     returns
     returns-2
-    has-group-requires
+    (λ c κs. search needs)
     returns-3
     returns-4
-    has-group-requires-2
+    (λ c κs. search needs)
     returns-5
     returns-6
-    has-group-requires-3
+    (λ c κs. search needs)
     returns-7)

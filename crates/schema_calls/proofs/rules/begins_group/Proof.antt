@@ -7,19 +7,10 @@ use borrow.Author.Needs.{needs}
 use Rattle.schema_calls.proofs.rules.begins_group.Statement.{statement}
 use Rattle.schema_calls.proofs.rules.begins_group.Tie as tie
 
-group-type-requires : tie.Need-group-type-requires
-group-type-requires c κs = search needs
-
 returns : tie.Need-returns
 returns c =
     let s = c .before .before .before .before .before .before .args in
     begins-other-type (rowOf (s .c)) (getD (schemaOf (s .schema .now) .groups) (s .i) noGroup) (c .before .before .before .before .group-type .ensures) (c .if1 .taken)
-
-group-path-requires : tie.Need-group-path-requires
-group-path-requires c κs = search needs
-
-begins-requires : tie.Need-begins-requires
-begins-requires c κs = search needs
 
 returns-2 : tie.Need-returns-2
 returns-2 c =
@@ -28,4 +19,4 @@ returns-2 c =
 
 pub begins-group-spec : {M : Type 1} → statement M
 begins-group-spec =
-    tie.close (tie.spec group-type-requires returns group-path-requires begins-requires returns-2)
+    tie.close (tie.spec (λ c κs. search needs) returns (λ c κs. search needs) (λ c κs. search needs) returns-2)

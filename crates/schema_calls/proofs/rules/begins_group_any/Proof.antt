@@ -17,27 +17,15 @@ Inv-loop schema c count i₀ i = anyOf (beginsGroup (rowOf c)) (drop i (take cou
 abbrev μ-loop : tie.MeasureT-loop
 μ-loop schema c count i₀ i = count - i
 
-group-count-requires : tie.Need-group-count-requires Inv-loop μ-loop
-group-count-requires c κs = search needs
-
 loop-holds : tie.Need-loop-holds Inv-loop μ-loop
 loop-holds c =
     let s = c .before .before .args in
     ap (anyOf (beginsGroup (rowOf (s .c)))) (all-left (schemaOf (s .schema .now) .groups) _ (c .group-count .ensures))
 
-begins-group-requires : tie.Need-begins-group-requires Inv-loop μ-loop
-begins-group-requires c κs = search needs
-
 returns : tie.Need-returns Inv-loop μ-loop
 returns c =
     let s = c .before .before .before .before .before .before .args in
     sym (any-stop noGroup (schemaOf (s .schema .now) .groups) (c .before .before .before .before .group-count .result) (search needs) (c .before .before .before .loop .i) (beginsGroup (rowOf (s .c))) (search needs) (sym (c .before .begins-group .ensures) ∙ c .if1 .taken)) ∙ c .before .before .before .loop .inv
-
-add-i : tie.Need-add-i Inv-loop μ-loop
-add-i c = search needs
-
-loop-less : tie.Need-loop-less Inv-loop μ-loop
-loop-less c = search needs
 
 loop-again : tie.Need-loop-again Inv-loop μ-loop
 loop-again c =
@@ -55,11 +43,11 @@ begins-group-any-spec =
     (tie.spec
     Inv-loop
     μ-loop
-    group-count-requires
+    (λ c κs. search needs)
     loop-holds
-    begins-group-requires
+    (λ c κs. search needs)
     returns
-    add-i
-    loop-less
+    (λ c. search needs)
+    (λ c. search needs)
     loop-again
     returns-2)

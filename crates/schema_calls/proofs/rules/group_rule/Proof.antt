@@ -8,16 +8,10 @@ use borrow.Author.Needs.{needs}
 use Rattle.schema_calls.proofs.rules.group_rule.Statement.{statement}
 use Rattle.schema_calls.proofs.rules.group_rule.Tie as tie
 
-row-may-stand-requires : tie.Need-row-may-stand-requires
-row-may-stand-requires c κs = search needs
-
 returns : tie.Need-returns
 returns c mode =
     let s = c .before .before .before .args in
     group-stands-not (groupsAbove (schemaOf (s .schema .now)) (s .above)) (s .t .0) (partsOf (s .p)) (c .before .row-may-stand .ensures) mode (not-true (c .before .row-may-stand .result) (c .if1 .taken))
-
-has-group-requires : tie.Need-has-group-requires
-has-group-requires c κs = search needs
 
 returns-2 : tie.Need-returns-2
 returns-2 c mode =
@@ -25,4 +19,4 @@ returns-2 c mode =
     group-once (groupsAbove (schemaOf (s .schema .now)) (s .above)) (s .t .0) (partsOf (s .p)) (c .before .before .row-may-stand .ensures) mode (not-false (c .before .before .row-may-stand .result) (c .before .if1 .left)) (c .has-group .ensures)
 
 pub group-rule-spec : {M : Type 1} → statement M
-group-rule-spec = tie.close (tie.spec row-may-stand-requires returns has-group-requires returns-2)
+group-rule-spec = tie.close (tie.spec (λ c κs. search needs) returns (λ c κs. search needs) returns-2)

@@ -7,9 +7,6 @@ use borrow.Author.Needs.{needs}
 use Rattle.schema_calls.proofs.rules.row_may_stand.Statement.{statement}
 use Rattle.schema_calls.proofs.rules.row_may_stand.Tie as tie
 
-type-declared-requires : tie.Need-type-declared-requires
-type-declared-requires c κs = search needs
-
 returns : tie.Need-returns
 returns c =
     let s = c .before .before .before .args in
@@ -25,9 +22,6 @@ returns-2 c =
     let s = c .before .before .before .before .before .args in
     stand-characters (schemaOf (s .schema .now)) (s .above) (s .t .0) (partsOf (s .p)) (c .before .before .before .type-declared .ensures) (not-false (c .before .before .before .type-declared .result) (c .before .before .if1 .left)) (c .before .type-mode .ensures) (c .if2 .taken)
 
-beginnings-stand-requires : tie.Need-beginnings-stand-requires
-beginnings-stand-requires c κs = search needs
-
 returns-3 : tie.Need-returns-3
 returns-3 c =
     let s = c .before .before .before .before .before .before .args in
@@ -37,9 +31,9 @@ pub row-may-stand-spec : {M : Type 1} → statement M
 row-may-stand-spec =
     tie.close
     (tie.spec
-    type-declared-requires
+    (λ c κs. search needs)
     returns
     type-mode-requires
     returns-2
-    beginnings-stand-requires
+    (λ c κs. search needs)
     returns-3)

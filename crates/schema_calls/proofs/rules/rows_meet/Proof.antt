@@ -7,36 +7,21 @@ use borrow.Author.Needs.{needs}
 use Rattle.schema_calls.proofs.rules.rows_meet.Statement.{statement}
 use Rattle.schema_calls.proofs.rules.rows_meet.Tie as tie
 
-row-type-requires : tie.Need-row-type-requires
-row-type-requires c κs = search needs
-
 returns : tie.Need-returns
 returns c =
     let s = c .before .before .before .before .before .before .args in
     meet-other-type (rowOf (s .c)) (getD (schemaOf (s .schema .now) .subElements) (s .i) noSubElement) (c .before .before .before .before .row-type .ensures) (c .if1 .taken)
-
-row-name-requires : tie.Need-row-name-requires
-row-name-requires c κs = search needs
 
 returns-2 : tie.Need-returns-2
 returns-2 c =
     let s = c .before .before .before .before .before .before .before .before .before .before .before .args in
     meet-name (rowOf (s .c)) (getD (schemaOf (s .schema .now) .subElements) (s .i) noSubElement) (c .before .before .before .before .before .before .before .before .before .row-type .ensures) (c .before .before .before .before .before .if1 .left) (c .before .before .before .before .row-name .ensures) (c .if2 .taken)
 
-row-path-requires : tie.Need-row-path-requires
-row-path-requires c κs = search needs
-
-begins-requires : tie.Need-begins-requires
-begins-requires c κs = search needs
-
 returns-3 : tie.Need-returns-3
 returns-3 c =
     let s = c .before .before .before .before .before .before .before .before .before .before .before .before .before .before .before .args in
     meet-begins (rowOf (s .c)) (getD (schemaOf (s .schema .now) .subElements) (s .i) noSubElement) (c .before .before .before .before .before .before .before .before .before .before .before .before .before .row-type .ensures) (c .before .before .before .before .before .before .before .before .before .if1 .left) (c .before .before .before .before .before .before .before .before .row-name .ensures) (c .before .before .before .before .if2 .left) (c .before .before .before .row-path .ensures)
     (c .before .begins .ensures) (c .if3 .taken)
-
-begins-requires-2 : tie.Need-begins-requires-2
-begins-requires-2 c κs = search needs
 
 returns-4 : tie.Need-returns-4
 returns-4 c =
@@ -48,12 +33,12 @@ pub rows-meet-spec : {M : Type 1} → statement M
 rows-meet-spec =
     tie.close
     (tie.spec
-    row-type-requires
+    (λ c κs. search needs)
     returns
-    row-name-requires
+    (λ c κs. search needs)
     returns-2
-    row-path-requires
-    begins-requires
+    (λ c κs. search needs)
+    (λ c κs. search needs)
     returns-3
-    begins-requires-2
+    (λ c κs. search needs)
     returns-4)

@@ -20,19 +20,10 @@ abbrev μ-loop : tie.MeasureT-loop
 loop-holds : tie.Need-loop-holds Inv-loop μ-loop
 loop-holds c = refl
 
-rows-meet-requires : tie.Need-rows-meet-requires Inv-loop μ-loop
-rows-meet-requires c κs = search needs
-
 returns : tie.Need-returns Inv-loop μ-loop
 returns c =
     let s = c .before .before .before .before .before .args in
     sym (any-stop noSubElement (schemaOf (s .schema .now) .subElements) (s .above) (search needs) (c .before .before .before .loop .i) (rowsMeet (rowOf (s .c))) (search needs) (sym (c .before .rows-meet .ensures) ∙ c .if1 .taken)) ∙ c .before .before .before .loop .inv
-
-add-i : tie.Need-add-i Inv-loop μ-loop
-add-i c = search needs
-
-loop-less : tie.Need-loop-less Inv-loop μ-loop
-loop-less c = search needs
 
 loop-again : tie.Need-loop-again Inv-loop μ-loop
 loop-again c =
@@ -51,9 +42,9 @@ rows-meet-any-spec =
     Inv-loop
     μ-loop
     loop-holds
-    rows-meet-requires
+    (λ c κs. search needs)
     returns
-    add-i
-    loop-less
+    (λ c. search needs)
+    (λ c. search needs)
     loop-again
     returns-2)

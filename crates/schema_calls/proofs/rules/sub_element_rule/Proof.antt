@@ -7,12 +7,6 @@ use borrow.Author.Needs.{needs}
 use Rattle.schema_calls.proofs.rules.sub_element_rule.Statement.{statement}
 use Rattle.schema_calls.proofs.rules.sub_element_rule.Tie as tie
 
-group-count-requires : tie.Need-group-count-requires
-group-count-requires c κs = search needs
-
-row-may-stand-requires : tie.Need-row-may-stand-requires
-row-may-stand-requires c κs = search needs
-
 returns : tie.Need-returns
 returns c =
     let s = c .before .before .before .before .args in
@@ -20,9 +14,6 @@ returns c =
     let stands = c .before .row-may-stand in
     sub-stands-not (schemaOf (s .schema .now)) (s .above) (rowOf (s .c)) (groups .result) (groups .ensures) (stands .ensures)
     (not-true (stands .result) (c .if1 .taken))
-
-type-declared-requires : tie.Need-type-declared-requires
-type-declared-requires c κs = search needs
 
 returns-2 : tie.Need-returns-2
 returns-2 c =
@@ -34,9 +25,6 @@ returns-2 c =
     (not-false (stands .result) (c .before .before .if1 .left))
     (child .ensures)
     (not-true (child .result) (c .if2 .taken))
-
-rows-meet-any-requires : tie.Need-rows-meet-any-requires
-rows-meet-any-requires c κs = search needs
 
 returns-3 : tie.Need-returns-3
 returns-3 c =
@@ -50,9 +38,6 @@ returns-3 c =
     (not-false (child .result) (c .before .before .if2 .left))
     (c .before .rows-meet-any .ensures)
     (c .if3 .taken)
-
-begins-group-any-requires : tie.Need-begins-group-any-requires
-begins-group-any-requires c κs = search needs
 
 returns-4 : tie.Need-returns-4
 returns-4 c =
@@ -72,12 +57,12 @@ pub sub-element-rule-spec : {M : Type 1} → statement M
 sub-element-rule-spec =
     tie.close
     (tie.spec
-    group-count-requires
-    row-may-stand-requires
+    (λ c κs. search needs)
+    (λ c κs. search needs)
     returns
-    type-declared-requires
+    (λ c κs. search needs)
     returns-2
-    rows-meet-any-requires
+    (λ c κs. search needs)
     returns-3
-    begins-group-any-requires
+    (λ c κs. search needs)
     returns-4)

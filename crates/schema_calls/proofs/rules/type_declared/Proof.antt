@@ -4,12 +4,9 @@ use borrow.Author.Needs.{needs}
 use Rattle.schema_calls.proofs.rules.type_declared.Statement.{statement}
 use Rattle.schema_calls.proofs.rules.type_declared.Tie as tie
 
-type-count-requires : tie.Need-type-count-requires
-type-count-requires c κs = search needs
-
 returns : tie.Need-returns
 unfolding declaredType
 returns c = rw (c .before .type-count .ensures)
 
 pub type-declared-spec : {M : Type 1} → statement M
-type-declared-spec = tie.close (tie.spec type-count-requires returns)
+type-declared-spec = tie.close (tie.spec (λ c κs. search needs) returns)

@@ -4,24 +4,6 @@ use borrow.Author.Needs.{needs}
 use Rattle.state_test.proofs.files.entry_declared.Statement.{statement}
 use Rattle.state_test.proofs.files.entry_declared.Tie as tie
 
-enum-known-a : tie.Need-enum-known-a
-enum-known-a c = search needs
-
-part-of-requires : tie.Need-part-of-requires
-part-of-requires c κs = search needs
-
-enum-known-a-2 : tie.Need-enum-known-a-2
-enum-known-a-2 c = search needs
-
-part-of-requires-2 : tie.Need-part-of-requires-2
-part-of-requires-2 c κs = search needs
-
-enum-known-a-3 : tie.Need-enum-known-a-3
-enum-known-a-3 c = search needs
-
-declares-file-requires : tie.Need-declares-file-requires
-declares-file-requires c κs = search needs
-
 returns : tie.Need-returns
 unfolding setDeclared entryDeclared
 returns c = rw (c .before .before .a .given .1, c .part-of .ensures, c .before .before .before .before .before .pre .1)
@@ -36,4 +18,4 @@ returns-3 c = rw (c .before .before .a3 .given .1, c .declares-file .ensures)
 
 pub entry-declared-spec : {M : Type 1} → statement M
 entry-declared-spec =
-    tie.close (tie.spec enum-known-a part-of-requires enum-known-a-2 part-of-requires-2 enum-known-a-3 declares-file-requires returns returns-2 returns-3)
+    tie.close (tie.spec (λ c. search needs) (λ c κs. search needs) (λ c. search needs) (λ c κs. search needs) (λ c. search needs) (λ c κs. search needs) returns returns-2 returns-3)

@@ -27,19 +27,10 @@ entries c = passed (c .before .log-declared .ensures) (c .if3 .left)
 trees : (c : tie.Else4) → allOf (treeDeclared (schemaOf (c .before .before .before .before .before .before .before .before .before .before .before .before .before .args .schema .now))) (elementsOf (c .before .before .before .before .before .before .before .before .before .before .before .before .before .args .elements .now) .trees) ≡ true
 trees c = passed (c .before .trees-declared .ensures) (c .if4 .left)
 
-declared-files-requires : tie.Need-declared-files-requires
-declared-files-requires c κs = search needs
-
-root-set-stands-requires : tie.Need-root-set-stands-requires
-root-set-stands-requires c κs = search needs
-
 returns : tie.Need-returns
 returns c =
     let a = c .before .before .before .before .before .before .before .args in
     λ deck. files-stop-1 (fixedIn deck (a .schema .now) (a .elements .now)) (stateIn (a .model .now) (a .log .now)) (failed (c .before .root-set-stands .ensures) (c .if1 .taken))
-
-sets-within-requires : tie.Need-sets-within-requires
-sets-within-requires c κs = search needs
 
 returns-2 : tie.Need-returns-2
 returns-2 c =
@@ -47,26 +38,17 @@ returns-2 c =
     let d = c .before .before .before .before .declared-files in
     λ deck. files-stop-2 (fixedIn deck (a .schema .now) (a .elements .now)) (stateIn (a .model .now) (a .log .now)) (root-set (c .before .before)) (d .result .0) (d .ensures) (failed (c .before .sets-within .ensures) (c .if2 .taken))
 
-log-declared-requires : tie.Need-log-declared-requires
-log-declared-requires c κs = search needs
-
 returns-3 : tie.Need-returns-3
 returns-3 c =
     let a = c .before .before .before .before .before .before .before .before .before .before .before .args in
     let d = c .before .before .before .before .before .before .declared-files in
     λ deck. files-stop-3 (fixedIn deck (a .schema .now) (a .elements .now)) (stateIn (a .model .now) (a .log .now)) (root-set (c .before .before .before .before)) (d .result .0) (d .ensures) (sets (c .before .before)) (failed (c .before .log-declared .ensures) (c .if3 .taken))
 
-trees-declared-requires : tie.Need-trees-declared-requires
-trees-declared-requires c κs = search needs
-
 returns-4 : tie.Need-returns-4
 returns-4 c =
     let a = c .before .before .before .before .before .before .before .before .before .before .before .before .before .args in
     let d = c .before .before .before .before .before .before .before .before .declared-files in
     λ deck. files-stop-4 (fixedIn deck (a .schema .now) (a .elements .now)) (stateIn (a .model .now) (a .log .now)) (root-set (c .before .before .before .before .before .before)) (d .result .0) (d .ensures) (sets (c .before .before .before .before)) (entries (c .before .before)) (failed (c .before .trees-declared .ensures) (c .if4 .taken))
-
-trees-apart-requires : tie.Need-trees-apart-requires
-trees-apart-requires c κs = search needs
 
 returns-5 : tie.Need-returns-5
 returns-5 c =
@@ -76,4 +58,4 @@ returns-5 c =
 
 pub files-stand-spec : {M : Type 1} → statement M
 files-stand-spec =
-    tie.close (tie.spec declared-files-requires root-set-stands-requires returns sets-within-requires returns-2 log-declared-requires returns-3 trees-declared-requires returns-4 trees-apart-requires returns-5)
+    tie.close (tie.spec (λ c κs. search needs) (λ c κs. search needs) returns (λ c κs. search needs) returns-2 (λ c κs. search needs) returns-3 (λ c κs. search needs) returns-4 (λ c κs. search needs) returns-5)

@@ -17,31 +17,16 @@ Inv-loop schema log d i₀ i = (i ≤ length (logOf log)) × (allOf (entryDeclar
 abbrev μ-loop : tie.MeasureT-loop
 μ-loop schema log d i₀ i = i
 
-log-length-requires : tie.Need-log-length-requires Inv-loop μ-loop
-log-length-requires c κs = search needs
-
 loop-holds : tie.Need-loop-holds Inv-loop μ-loop
 loop-holds c =
     let a = c .before .before .before .args in
     (search needs, entries-start (entryDeclared (schemaOf (a .schema .now))) (logOf (a .log .now)) _ (c .log-length .ensures))
-
-sub-i : tie.Need-sub-i Inv-loop μ-loop
-sub-i c = search needs
-
-entry-at-requires : tie.Need-entry-at-requires Inv-loop μ-loop
-entry-at-requires c κs = search needs
-
-entry-declared-requires : tie.Need-entry-declared-requires Inv-loop μ-loop
-entry-declared-requires c κs = search needs
 
 returns : tie.Need-returns Inv-loop μ-loop
 returns c =
     let a = c .before .before .before .before .before .before .before .before .args in
     let l = c .before .before .before .before .loop in
     entry-stop (entryDeclared (schemaOf (a .schema .now))) (logOf (a .log .now)) (l .i) (search needs) (l .inv .0) (c .before .entry-declared .ensures ∙ ap (entryDeclared (schemaOf (a .schema .now))) (c .before .before .entry-at .ensures)) (c .if1 .taken) (l .inv .1)
-
-loop-less : tie.Need-loop-less Inv-loop μ-loop
-loop-less c = search needs
 
 loop-again : tie.Need-loop-again Inv-loop μ-loop
 loop-again c =
@@ -57,4 +42,4 @@ returns-2 c =
 
 pub log-declared-spec : {M : Type 1} → statement M
 log-declared-spec =
-    tie.close (tie.spec Inv-loop μ-loop log-length-requires loop-holds sub-i entry-at-requires entry-declared-requires returns loop-less loop-again returns-2)
+    tie.close (tie.spec Inv-loop μ-loop (λ c κs. search needs) loop-holds (λ c. search needs) (λ c κs. search needs) (λ c κs. search needs) returns (λ c. search needs) loop-again returns-2)

@@ -7,9 +7,6 @@ use borrow.Author.Needs.{needs}
 use Rattle.state_test.proofs.files.root_set_stands.Statement.{statement}
 use Rattle.state_test.proofs.files.root_set_stands.Tie as tie
 
-count-requires : tie.Need-count-requires
-count-requires c κs = search needs
-
 returns : tie.Need-returns
 returns c =
     let m = c .before .before .before .args .model .now in
@@ -17,16 +14,10 @@ returns c =
     let k = c .before .count .ensures in
     no-root-set (modelOf m) (omega arith)
 
-set-of-requires : tie.Need-set-of-requires
-set-of-requires c κs = search needs
-
-is-empty-requires : tie.Need-is-empty-requires
-is-empty-requires c κs = search needs
-
 returns-2 : tie.Need-returns-2
 unfolding rootSetStands
 returns-2 c = rw (c .is-empty .ensures, c .before .set-of .ensures)
 
 pub root-set-stands-spec : {M : Type 1} → statement M
 root-set-stands-spec =
-    tie.close (tie.spec count-requires returns set-of-requires is-empty-requires returns-2)
+    tie.close (tie.spec (λ c κs. search needs) returns (λ c κs. search needs) (λ c κs. search needs) returns-2)

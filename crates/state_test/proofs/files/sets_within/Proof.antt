@@ -17,17 +17,8 @@ Inv-loop model d n e₀ e = allOf (λ (s : ℕ). partOf s (d .0)) (drop e (model
 abbrev μ-loop : tie.MeasureT-loop
 μ-loop model d n e₀ e = n - e
 
-count-requires : tie.Need-count-requires Inv-loop μ-loop
-count-requires c κs = search needs
-
 loop-holds : tie.Need-loop-holds Inv-loop μ-loop
 loop-holds c = refl
-
-set-of-requires : tie.Need-set-of-requires Inv-loop μ-loop
-set-of-requires c κs = search needs
-
-part-of-requires : tie.Need-part-of-requires Inv-loop μ-loop
-part-of-requires c κs = search needs
 
 returns : tie.Need-returns Inv-loop μ-loop
 returns c =
@@ -36,12 +27,6 @@ returns c =
     let k = c .before .before .before .before .before .count .ensures in
     let l = c .before .before .before .before .loop in
     each-stop (λ (z : ℕ). partOf z (a .d .0)) (modelOf (a .model .now) .sets) 0 (l .e) (omega arith) (c .before .part-of .ensures ∙ ap (λ (z : ℕ). partOf z (a .d .0)) (c .before .before .set-of .ensures)) (c .if1 .taken) (l .inv)
-
-add-e : tie.Need-add-e Inv-loop μ-loop
-add-e c = search needs
-
-loop-less : tie.Need-loop-less Inv-loop μ-loop
-loop-less c = search needs
 
 loop-again : tie.Need-loop-again Inv-loop μ-loop
 loop-again c =
@@ -61,4 +46,4 @@ returns-2 c =
 
 pub sets-within-spec : {M : Type 1} → statement M
 sets-within-spec =
-    tie.close (tie.spec Inv-loop μ-loop count-requires loop-holds set-of-requires part-of-requires returns add-e loop-less loop-again returns-2)
+    tie.close (tie.spec Inv-loop μ-loop (λ c κs. search needs) loop-holds (λ c κs. search needs) (λ c κs. search needs) returns (λ c. search needs) (λ c. search needs) loop-again returns-2)

@@ -19,35 +19,17 @@ Inv-loop elements i f n j₀ j = anyOf (λ (u : Tree). eqb (u .file) (getD (elem
 abbrev μ-loop : tie.MeasureT-loop
 μ-loop elements i f n j₀ j = n - j
 
-tree-file-requires : tie.Need-tree-file-requires Inv-loop μ-loop
-tree-file-requires c κs = search needs
-
-tree-count-requires : tie.Need-tree-count-requires Inv-loop μ-loop
-tree-count-requires c κs = search needs
-
-add-j : tie.Need-add-j Inv-loop μ-loop
-add-j c = search needs
-
 loop-holds : tie.Need-loop-holds Inv-loop μ-loop
 loop-holds c =
     let s = c .before .before .before .args in
     let ts = elementsOf (s .elements .now) .trees in
     ap (λ (l : List Tree). anyOf (λ (u : Tree). eqb (u .file) (getD ts (s .i) noTree .file)) (drop (s .i + 1) l)) (all-left ts _ (c .tree-count .ensures))
 
-tree-file-requires-2 : tie.Need-tree-file-requires-2 Inv-loop μ-loop
-tree-file-requires-2 c κs = search needs
-
 returns : tie.Need-returns Inv-loop μ-loop
 returns c =
     let s = c .before .before .before .before .before .before .before .before .before .args in
     let ts = elementsOf (s .elements .now) .trees in
     sym (any-stop noTree ts (c .before .before .before .before .before .before .tree-count .result) (search needs) (c .before .before .before .before .before .loop .j) (λ (u : Tree). eqb (u .file) (getD ts (s .i) noTree .file)) (search needs) (eq-eqb _ _ (sym (c .before .before .before .tree-file2 .ensures) ∙ c .if1 .taken ∙ c .before .before .before .before .before .before .before .tree-file .ensures))) ∙ c .before .before .before .before .before .loop .inv
-
-add-j-2 : tie.Need-add-j-2 Inv-loop μ-loop
-add-j-2 c = search needs
-
-loop-less : tie.Need-loop-less Inv-loop μ-loop
-loop-less c = search needs
 
 loop-again : tie.Need-loop-again Inv-loop μ-loop
 loop-again c =
@@ -63,4 +45,4 @@ returns-2 c =
 
 pub tree-again-spec : {M : Type 1} → statement M
 tree-again-spec =
-    tie.close (tie.spec Inv-loop μ-loop tree-file-requires tree-count-requires add-j loop-holds tree-file-requires-2 returns add-j-2 loop-less loop-again returns-2)
+    tie.close (tie.spec Inv-loop μ-loop (λ c κs. search needs) (λ c κs. search needs) (λ c. search needs) loop-holds (λ c κs. search needs) returns (λ c. search needs) (λ c. search needs) loop-again returns-2)

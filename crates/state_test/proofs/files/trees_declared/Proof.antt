@@ -18,17 +18,8 @@ Inv-loop schema elements n i₀ i = allOf (treeDeclared (schemaOf schema)) (drop
 abbrev μ-loop : tie.MeasureT-loop
 μ-loop schema elements n i₀ i = n - i
 
-tree-count-requires : tie.Need-tree-count-requires Inv-loop μ-loop
-tree-count-requires c κs = search needs
-
 loop-holds : tie.Need-loop-holds Inv-loop μ-loop
 loop-holds c = refl
-
-tree-file-requires : tie.Need-tree-file-requires Inv-loop μ-loop
-tree-file-requires c κs = search needs
-
-declares-file-requires : tie.Need-declares-file-requires Inv-loop μ-loop
-declares-file-requires c κs = search needs
 
 returns : tie.Need-returns Inv-loop μ-loop
 unfolding treeDeclared
@@ -36,12 +27,6 @@ returns c =
     let a = c .before .before .before .before .before .before .before .before .args in
     let l = c .before .before .before .before .loop in
     each-stop (treeDeclared (schemaOf (a .schema .now))) (elementsOf (a .elements .now) .trees) noTree (l .i) (search needs) (c .before .declares-file .ensures ∙ ap (declaresFile (schemaOf (a .schema .now))) (c .before .before .tree-file .ensures)) (c .if1 .taken) (l .inv)
-
-add-i : tie.Need-add-i Inv-loop μ-loop
-add-i c = search needs
-
-loop-less : tie.Need-loop-less Inv-loop μ-loop
-loop-less c = search needs
 
 loop-again : tie.Need-loop-again Inv-loop μ-loop
 unfolding treeDeclared
@@ -58,4 +43,4 @@ returns-2 c =
 
 pub trees-declared-spec : {M : Type 1} → statement M
 trees-declared-spec =
-    tie.close (tie.spec Inv-loop μ-loop tree-count-requires loop-holds tree-file-requires declares-file-requires returns add-i loop-less loop-again returns-2)
+    tie.close (tie.spec Inv-loop μ-loop (λ c κs. search needs) loop-holds (λ c κs. search needs) (λ c κs. search needs) returns (λ c. search needs) (λ c. search needs) loop-again returns-2)

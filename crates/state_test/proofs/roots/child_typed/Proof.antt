@@ -6,21 +6,6 @@ use borrow.Author.Needs.{needs}
 use Rattle.state_test.proofs.roots.child_typed.Statement.{statement}
 use Rattle.state_test.proofs.roots.child_typed.Tie as tie
 
-element-type-requires : tie.Need-element-type-requires
-element-type-requires c κs = search needs
-
-element-name-requires : tie.Need-element-name-requires
-element-name-requires c κs = search needs
-
-find-sub-element-requires : tie.Need-find-sub-element-requires
-find-sub-element-requires c κs = search needs
-
-enum-known-i : tie.Need-enum-known-i
-enum-known-i c = search needs
-
-enum-told : tie.Need-enum-told
-enum-told c = search needs
-
 returns : tie.Need-returns
 returns c =
     let a = c .before .before .before .before .before .before .before .args in
@@ -31,9 +16,6 @@ row-child-requires c κs =
     let h = found-within (c .before .before .before .find-sub-element .ensures) (c .before .i .given .1) in
     search needs
 
-element-type-requires-2 : tie.Need-element-type-requires-2
-element-type-requires-2 c κs = search needs
-
 returns-2 : tie.Need-returns-2
 returns-2 c =
     let a = c .before .before .before .before .before .before .before .before .before .before .before .before .args in
@@ -41,4 +23,4 @@ returns-2 c =
 
 pub child-typed-spec : {M : Type 1} → statement M
 child-typed-spec =
-    tie.close (tie.spec element-type-requires element-name-requires find-sub-element-requires enum-known-i enum-told returns row-child-requires element-type-requires-2 returns-2)
+    tie.close (tie.spec (λ c κs. search needs) (λ c κs. search needs) (λ c κs. search needs) (λ c. search needs) (λ c. search needs) returns row-child-requires (λ c κs. search needs) returns-2)

@@ -4,16 +4,10 @@ use borrow.Author.Needs.{needs}
 use Rattle.state_test.proofs.roots.item_typed.Statement.{statement}
 use Rattle.state_test.proofs.roots.item_typed.Tie as tie
 
-enum-known-a : tie.Need-enum-known-a
-enum-known-a c = search needs
-
 child-typed-requires : tie.Need-child-typed-requires
 child-typed-requires c κs =
     let h = rw (c .before .a .given .1) at (c .before .before .before .before .before .pre .1 .1 .1) in
     search needs
-
-enum-told : tie.Need-enum-told
-enum-told c = search needs
 
 returns : tie.Need-returns
 returns c = λ deck. rw (c .before .before .a .given .1) (c .child-typed .ensures deck)
@@ -24,4 +18,4 @@ returns-2 c = λ deck. rw (c .enum-told .given .1)
 
 pub item-typed-spec : {M : Type 1} → statement M
 item-typed-spec =
-    tie.close (tie.spec enum-known-a child-typed-requires enum-told returns returns-2)
+    tie.close (tie.spec (λ c. search needs) child-typed-requires (λ c. search needs) returns returns-2)

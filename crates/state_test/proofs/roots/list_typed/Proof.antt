@@ -19,14 +19,8 @@ Inv-loop schema elements model p n i₀ i = (deck : List ℕ) → allOf (itemTyp
 abbrev μ-loop : tie.MeasureT-loop
 μ-loop schema elements model p n i₀ i = n - i
 
-list-length-requires : tie.Need-list-length-requires Inv-loop μ-loop
-list-length-requires c κs = search needs
-
 loop-holds : tie.Need-loop-holds Inv-loop μ-loop
 loop-holds c = λ deck. refl
-
-item-at-requires : tie.Need-item-at-requires Inv-loop μ-loop
-item-at-requires c κs = search needs
 
 item-typed-requires : tie.Need-item-typed-requires Inv-loop μ-loop
 item-typed-requires c κs =
@@ -42,12 +36,6 @@ returns c =
     let a = c .before .before .before .before .before .before .before .before .before .args in
     λ deck. each-stop (itemTyped (fixedIn deck (a .schema .now) (a .elements .now)) (a .p)) (listOf (modelOf (a .model .now)) (a .p)) (child 0) (c .before .before .before .before .loop .i) (search needs) (c .before .item-typed .ensures deck ∙ ap (itemTyped (fixedIn deck (a .schema .now) (a .elements .now)) (a .p)) (c .before .before .item-at .ensures)) (c .if1 .taken) (c .before .before .before .before .loop .inv deck)
 
-add-i : tie.Need-add-i Inv-loop μ-loop
-add-i c = search needs
-
-loop-less : tie.Need-loop-less Inv-loop μ-loop
-loop-less c = search needs
-
 loop-again : tie.Need-loop-again Inv-loop μ-loop
 loop-again c =
     let a = c .before .before .before .before .before .before .before .before .before .args in
@@ -60,4 +48,4 @@ returns-2 c =
 
 pub list-typed-spec : {M : Type 1} → statement M
 list-typed-spec =
-    tie.close (tie.spec Inv-loop μ-loop list-length-requires loop-holds item-at-requires item-typed-requires returns add-i loop-less loop-again returns-2)
+    tie.close (tie.spec Inv-loop μ-loop (λ c κs. search needs) loop-holds (λ c κs. search needs) item-typed-requires returns (λ c. search needs) (λ c. search needs) loop-again returns-2)

@@ -17,9 +17,6 @@ Inv-loop schema elements model n p₀ p = (deck : List ℕ) → listsTyped (fixe
 abbrev μ-loop : tie.MeasureT-loop
 μ-loop schema elements model n p₀ p = n - p
 
-count-requires : tie.Need-count-requires Inv-loop μ-loop
-count-requires c κs = search needs
-
 loop-holds : tie.Need-loop-holds Inv-loop μ-loop
 loop-holds c = λ deck. refl
 
@@ -34,12 +31,6 @@ returns c =
     let s = c .before .before .before .before .before .before .before .before .pre .1 .1 .0 .sized .lists in
     let k = c .before .before .before .before .count .ensures in
     λ deck. lists-stop (fixedIn deck (a .schema .now) (a .elements .now)) (modelOf (a .model .now) .lists) (c .before .before .before .loop .p) (omega arith) (c .before .list-typed .ensures deck) (c .if1 .taken) (c .before .before .before .loop .inv deck)
-
-add-p : tie.Need-add-p Inv-loop μ-loop
-add-p c = search needs
-
-loop-less : tie.Need-loop-less Inv-loop μ-loop
-loop-less c = search needs
 
 loop-again : tie.Need-loop-again Inv-loop μ-loop
 loop-again c =
@@ -57,4 +48,4 @@ returns-2 c =
 
 pub lists-typed-spec : {M : Type 1} → statement M
 lists-typed-spec =
-    tie.close (tie.spec Inv-loop μ-loop count-requires loop-holds list-typed-requires returns add-p loop-less loop-again returns-2)
+    tie.close (tie.spec Inv-loop μ-loop (λ c κs. search needs) loop-holds list-typed-requires returns (λ c. search needs) (λ c. search needs) loop-again returns-2)

@@ -6,9 +6,6 @@ use borrow.Author.Needs.{needs}
 use Rattle.state_test.proofs.roots.root_stands.Statement.{statement}
 use Rattle.state_test.proofs.roots.root_stands.Tie as tie
 
-element-count-requires : tie.Need-element-count-requires
-element-count-requires c κs = search needs
-
 returns : tie.Need-returns
 returns c =
     let a = c .before .before .before .args in
@@ -18,16 +15,10 @@ returns c =
     let k = c .before .element-count .ensures in
     λ deck schema. past-root (fixedIn deck schema (a .elements .now)) (a .e .0) (omega arith) (omega arith)
 
-element-depth-requires : tie.Need-element-depth-requires
-element-depth-requires c κs = search needs
-
 returns-2 : tie.Need-returns-2
 returns-2 c =
     let a = c .before .before .before .before .before .args in
     λ deck schema. deep-root (fixedIn deck schema (a .elements .now)) (a .e .0) (c .before .element-depth .ensures) (c .if2 .taken)
-
-element-type-requires : tie.Need-element-type-requires
-element-type-requires c κs = search needs
 
 returns-3 : tie.Need-returns-3
 returns-3 c =
@@ -36,4 +27,4 @@ returns-3 c =
 
 pub root-stands-spec : {M : Type 1} → statement M
 root-stands-spec =
-    tie.close (tie.spec element-count-requires returns element-depth-requires returns-2 element-type-requires returns-3)
+    tie.close (tie.spec (λ c κs. search needs) returns (λ c κs. search needs) returns-2 (λ c κs. search needs) returns-3)

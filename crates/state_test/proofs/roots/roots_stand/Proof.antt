@@ -19,36 +19,18 @@ Inv-loop elements n i₀ i = (deck schema : List ℕ) → allOf (λ (t : Tree). 
 abbrev μ-loop : tie.MeasureT-loop
 μ-loop elements n i₀ i = n - i
 
-root-stands-requires : tie.Need-root-stands-requires Inv-loop μ-loop
-root-stands-requires c κs = search needs
-
 returns : tie.Need-returns Inv-loop μ-loop
 returns c =
     let a = c .before .before .before .args in
     λ deck schema. roots-stop (fixedIn deck schema (a .elements .now)) (failed (c .before .root-stands .ensures deck schema) (c .if1 .taken))
 
-tree-count-requires : tie.Need-tree-count-requires Inv-loop μ-loop
-tree-count-requires c κs = search needs
-
 loop-holds : tie.Need-loop-holds Inv-loop μ-loop
 loop-holds c = λ deck schema. refl
-
-tree-root-requires : tie.Need-tree-root-requires Inv-loop μ-loop
-tree-root-requires c κs = search needs
-
-root-stands-requires-2 : tie.Need-root-stands-requires-2 Inv-loop μ-loop
-root-stands-requires-2 c κs = search needs
 
 returns-2 : tie.Need-returns-2 Inv-loop μ-loop
 returns-2 c =
     let a = c .before .before .before .before .before .before .before .before .before .args in
     λ deck schema. roots-last (fixedIn deck schema (a .elements .now)) (passed (c .before .before .before .before .before .before .before .root-stands .ensures deck schema) (c .before .before .before .before .before .before .if1 .left)) (each-stop (λ (t : Tree). rootStands (fixedIn deck schema (a .elements .now)) (t .root)) (elementsOf (a .elements .now) .trees) noTree (c .before .before .before .before .loop .i) (search needs) (c .before .root-stands2 .ensures deck schema ∙ ap (rootStands (fixedIn deck schema (a .elements .now))) (c .before .before .tree-root .ensures)) (c .if2 .taken) (c .before .before .before .before .loop .inv deck schema))
-
-add-i : tie.Need-add-i Inv-loop μ-loop
-add-i c = search needs
-
-loop-less : tie.Need-loop-less Inv-loop μ-loop
-loop-less c = search needs
 
 loop-again : tie.Need-loop-again Inv-loop μ-loop
 loop-again c =
@@ -62,4 +44,4 @@ returns-3 c =
 
 pub roots-stand-spec : {M : Type 1} → statement M
 roots-stand-spec =
-    tie.close (tie.spec Inv-loop μ-loop root-stands-requires returns tree-count-requires loop-holds tree-root-requires root-stands-requires-2 returns-2 add-i loop-less loop-again returns-3)
+    tie.close (tie.spec Inv-loop μ-loop (λ c κs. search needs) returns (λ c κs. search needs) loop-holds (λ c κs. search needs) (λ c κs. search needs) returns-2 (λ c. search needs) (λ c. search needs) loop-again returns-3)

@@ -17,32 +17,14 @@ Inv-loop schema n i₀ i = groupsStand (groupsAbove (withoutRows (schemaOf schem
 abbrev μ-loop : tie.MeasureT-loop
 μ-loop schema n i₀ i = n - i
 
-group-count-requires : tie.Need-group-count-requires Inv-loop μ-loop
-group-count-requires c κs = search needs
-
 loop-holds : tie.Need-loop-holds Inv-loop μ-loop
 loop-holds c = groups-start (schemaOf (c .before .before .args .schema .now))
-
-group-type-requires : tie.Need-group-type-requires Inv-loop μ-loop
-group-type-requires c κs = search needs
-
-group-path-requires : tie.Need-group-path-requires Inv-loop μ-loop
-group-path-requires c κs = search needs
-
-group-rule-requires : tie.Need-group-rule-requires Inv-loop μ-loop
-group-rule-requires c κs = search needs
 
 returns : tie.Need-returns Inv-loop μ-loop
 returns c =
     let sc = schemaOf (c .before .before .before .before .before .before .before .before .args .schema .now) in
     let l = c .before .before .before .before .before .loop in
     groups-stop sc (l .i) (search needs) (c .before .group-rule .ensures (getD (sc .groups) (l .i) noGroup .mode) ∙ ap (groupRule (groupsAbove sc (l .i))) (group-is (getD (sc .groups) (l .i) noGroup) (c .before .before .before .group-type .ensures) (c .before .before .group-path .ensures))) (c .if1 .taken) (l .inv)
-
-add-i : tie.Need-add-i Inv-loop μ-loop
-add-i c = search needs
-
-loop-less : tie.Need-loop-less Inv-loop μ-loop
-loop-less c = search needs
 
 loop-again : tie.Need-loop-again Inv-loop μ-loop
 loop-again c =
@@ -58,4 +40,4 @@ returns-2 c =
 
 pub groups-stand-spec : {M : Type 1} → statement M
 groups-stand-spec =
-    tie.close (tie.spec Inv-loop μ-loop group-count-requires loop-holds group-type-requires group-path-requires group-rule-requires returns add-i loop-less loop-again returns-2)
+    tie.close (tie.spec Inv-loop μ-loop (λ c κs. search needs) loop-holds (λ c κs. search needs) (λ c κs. search needs) (λ c κs. search needs) returns (λ c. search needs) (λ c. search needs) loop-again returns-2)

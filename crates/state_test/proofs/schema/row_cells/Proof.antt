@@ -6,24 +6,6 @@ use borrow.Author.Needs.{needs}
 use Rattle.state_test.proofs.schema.row_cells.Statement.{statement}
 use Rattle.state_test.proofs.schema.row_cells.Tie as tie
 
-row-type-requires : tie.Need-row-type-requires
-row-type-requires c κs = search needs
-
-row-path-requires : tie.Need-row-path-requires
-row-path-requires c κs = search needs
-
-row-name-requires : tie.Need-row-name-requires
-row-name-requires c κs = search needs
-
-row-child-requires : tie.Need-row-child-requires
-row-child-requires c κs = search needs
-
-row-mult-requires : tie.Need-row-mult-requires
-row-mult-requires c κs = search needs
-
-row-mask-requires : tie.Need-row-mask-requires
-row-mask-requires c κs = search needs
-
 returns : tie.Need-returns
 returns c =
     let a = c .before .before .before .before .before .before .before .args in
@@ -31,4 +13,4 @@ returns c =
 
 pub row-cells-spec : {M : Type 1} → statement M
 row-cells-spec =
-    tie.close (tie.spec row-type-requires row-path-requires row-name-requires row-child-requires row-mult-requires row-mask-requires returns)
+    tie.close (tie.spec (λ c κs. search needs) (λ c κs. search needs) (λ c κs. search needs) (λ c κs. search needs) (λ c κs. search needs) (λ c κs. search needs) returns)

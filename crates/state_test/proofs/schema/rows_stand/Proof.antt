@@ -16,29 +16,14 @@ Inv-loop schema n i₀ i = rowsStand (rowsAbove (schemaOf schema) i) (drop i (sc
 abbrev μ-loop : tie.MeasureT-loop
 μ-loop schema n i₀ i = n - i
 
-row-count-requires : tie.Need-row-count-requires Inv-loop μ-loop
-row-count-requires c κs = search needs
-
 loop-holds : tie.Need-loop-holds Inv-loop μ-loop
 loop-holds c = rows-start (schemaOf (c .before .before .args .schema .now))
-
-row-cells-requires : tie.Need-row-cells-requires Inv-loop μ-loop
-row-cells-requires c κs = search needs
-
-sub-element-rule-requires : tie.Need-sub-element-rule-requires Inv-loop μ-loop
-sub-element-rule-requires c κs = search needs
 
 returns : tie.Need-returns Inv-loop μ-loop
 returns c =
     let sc = schemaOf (c .before .before .before .before .before .before .before .args .schema .now) in
     let l = c .before .before .before .before .loop in
     rows-stop sc (l .i) (search needs) (c .before .before .row-cells .ensures) (c .before .sub-element-rule .ensures) (c .if1 .taken) (l .inv)
-
-add-i : tie.Need-add-i Inv-loop μ-loop
-add-i c = search needs
-
-loop-less : tie.Need-loop-less Inv-loop μ-loop
-loop-less c = search needs
 
 loop-again : tie.Need-loop-again Inv-loop μ-loop
 loop-again c =
@@ -54,4 +39,4 @@ returns-2 c =
 
 pub rows-stand-spec : {M : Type 1} → statement M
 rows-stand-spec =
-    tie.close (tie.spec Inv-loop μ-loop row-count-requires loop-holds row-cells-requires sub-element-rule-requires returns add-i loop-less loop-again returns-2)
+    tie.close (tie.spec Inv-loop μ-loop (λ c κs. search needs) loop-holds (λ c κs. search needs) (λ c κs. search needs) returns (λ c. search needs) (λ c. search needs) loop-again returns-2)

@@ -8,9 +8,6 @@ use borrow.Author.Needs.{needs}
 use Rattle.state_test.proofs.state.lent_tables_pass.Statement.{statement}
 use Rattle.state_test.proofs.state.lent_tables_pass.Tie as tie
 
-tables-pass-requires : tie.Need-tables-pass-requires
-tables-pass-requires c κs = search needs
-
 returns : tie.Need-returns
 returns c =
     let a = c .before .before .before .before .before .before .before .args in
@@ -30,4 +27,4 @@ returns-2 c =
 
 pub lent-tables-pass-spec : {M : Type 1} → statement M
 lent-tables-pass-spec =
-    tie.close (tie.spec tables-pass-requires returns state-stands-requires returns-2)
+    tie.close (tie.spec (λ c κs. search needs) returns state-stands-requires returns-2)

@@ -17,9 +17,6 @@ schema c = passed (c .before .schema-stands .ensures) (c .if1 .left)
 files : (c : tie.Else2) (deck : List ℕ) → filesStand (fixedIn deck (c .before .before .before .before .before .before .before .before .args .schema .now) (c .before .before .before .before .before .before .before .before .args .elements .now)) (stateIn (c .before .before .before .before .before .before .before .before .args .model .now) (c .before .before .before .before .before .before .before .before .args .log .now)) ≡ true
 files c deck = passed (c .before .files-stand .ensures deck) (c .if2 .left)
 
-schema-stands-requires : tie.Need-schema-stands-requires
-schema-stands-requires c κs = search needs
-
 returns : tie.Need-returns
 returns c =
     let a = c .before .before .before .before .before .before .args in
@@ -34,9 +31,6 @@ returns-2 : tie.Need-returns-2
 returns-2 c =
     let a = c .before .before .before .before .before .before .before .before .args in
     λ deck. state-stop-2 (fixedIn deck (a .schema .now) (a .elements .now)) (stateIn (a .model .now) (a .log .now)) (schema (c .before .before)) (failed (c .before .files-stand .ensures deck) (c .if2 .taken))
-
-roots-stand-requires : tie.Need-roots-stand-requires
-roots-stand-requires c κs = search needs
 
 returns-3 : tie.Need-returns-3
 returns-3 c =
@@ -55,4 +49,4 @@ returns-4 c =
 
 pub state-stands-spec : {M : Type 1} → statement M
 state-stands-spec =
-    tie.close (tie.spec schema-stands-requires returns files-stand-requires returns-2 roots-stand-requires returns-3 lists-typed-requires returns-4)
+    tie.close (tie.spec (λ c κs. search needs) returns files-stand-requires returns-2 (λ c κs. search needs) returns-3 lists-typed-requires returns-4)

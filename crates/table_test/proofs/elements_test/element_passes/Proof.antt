@@ -7,9 +7,6 @@ use borrow.Author.Needs.{needs}
 use Rattle.table_test.proofs.elements_test.element_passes.Statement.{statement}
 use Rattle.table_test.proofs.elements_test.element_passes.Tie as tie
 
-shared-slice-read-if1 : tie.Need-shared-slice-read-if1
-shared-slice-read-if1 c = search needs
-
 returns : tie.Need-returns
 unfolding elementPasses
 returns c =
@@ -17,18 +14,12 @@ returns c =
     let types = c .before .before .args .types in
     rw (elementPasses, lt-leb (getD r 0 0) 4095 (omega arith))
 
-shared-slice-read-if2 : tie.Need-shared-slice-read-if2
-shared-slice-read-if2 c = search needs
-
 returns-2 : tie.Need-returns-2
 unfolding elementPasses
 returns-2 c =
     let r = c .before .before .before .before .args .row .now in
     let types = c .before .before .before .before .args .types in
     rw (elementPasses, le-leb (getD r 0 0) 4095 (omega arith), le-ltb (getD r 1 0) types (omega arith))
-
-shared-slice-read-if3 : tie.Need-shared-slice-read-if3
-shared-slice-read-if3 c = search needs
 
 returns-3 : tie.Need-returns-3
 unfolding elementPasses
@@ -48,10 +39,10 @@ pub element-passes-spec : {M : Type 1} → statement M
 element-passes-spec =
     tie.close
     (tie.spec
-    shared-slice-read-if1
+    (λ c. search needs)
     returns
-    shared-slice-read-if2
+    (λ c. search needs)
     returns-2
-    shared-slice-read-if3
+    (λ c. search needs)
     returns-3
     returns-4)

@@ -14,17 +14,11 @@ returns c =
     let r = c .before .before .args .t .now in
     rw (isElementsTable, ne-eqb (length r) 7299 (λ e. omega arith))
 
-shared-slice-read-n : tie.Need-shared-slice-read-n
-shared-slice-read-n c = search needs
-
 returns-2 : tie.Need-returns-2
 unfolding isElementsTable
 returns-2 c =
     let r = c .before .before .before .before .args .t .now in
     rw (isElementsTable, eq-eqb (length r) 7299 (omega arith), lt-leb (getD r 0 0) 1024 (omega arith))
-
-shared-slice-read-texts : tie.Need-shared-slice-read-texts
-shared-slice-read-texts c = search needs
 
 returns-3 : tie.Need-returns-3
 unfolding isElementsTable
@@ -32,26 +26,11 @@ returns-3 c =
     let r = c .before .before .before .before .before .before .args .t .now in
     rw (isElementsTable, eq-eqb (length r) 7299 (omega arith), le-leb (getD r 0 0) 1024 (omega arith), lt-leb (getD r 1 0) 2048 (omega arith))
 
-shared-slice-read-trees : tie.Need-shared-slice-read-trees
-shared-slice-read-trees c = search needs
-
 returns-4 : tie.Need-returns-4
 unfolding isElementsTable
 returns-4 c =
     let r = c .before .before .before .before .before .before .before .before .args .t .now in
     rw (isElementsTable, eq-eqb (length r) 7299 (omega arith), le-leb (getD r 0 0) 1024 (omega arith), le-leb (getD r 1 0) 2048 (omega arith), lt-leb (getD r 2 0) 64 (omega arith))
-
-sub-elements-pass : tie.Need-sub-elements-pass
-sub-elements-pass c = search needs
-
-part-elements-pass-start : tie.Need-part-elements-pass-start
-part-elements-pass-start c = search needs
-
-part-elements-pass-end : tie.Need-part-elements-pass-end
-part-elements-pass-end c = search needs
-
-elements-pass-requires : tie.Need-elements-pass-requires
-elements-pass-requires c κs = search needs
 
 returns-5 : tie.Need-returns-5
 unfolding isElementsTable
@@ -60,18 +39,6 @@ returns-5 c =
     let q = c .before .elements-pass in
     rw (isElementsTable, eq-eqb (length r) 7299 (omega arith), le-leb (getD r 0 0) 1024 (omega arith), le-leb (getD r 1 0) 2048 (omega arith), le-leb (getD r 2 0) 64 (omega arith), sym (q .ensures) ∙ not-true (q .result) (c .if5 .taken))
 
-sub-texts-pass : tie.Need-sub-texts-pass
-sub-texts-pass c = search needs
-
-part-texts-pass-start : tie.Need-part-texts-pass-start
-part-texts-pass-start c = search needs
-
-part-texts-pass-end : tie.Need-part-texts-pass-end
-part-texts-pass-end c = search needs
-
-texts-pass-requires : tie.Need-texts-pass-requires
-texts-pass-requires c κs = search needs
-
 returns-6 : tie.Need-returns-6
 unfolding isElementsTable
 returns-6 c =
@@ -79,18 +46,6 @@ returns-6 c =
     let q = c .before .before .before .before .elements-pass in
     let p = c .before .texts-pass in
     rw (isElementsTable, eq-eqb (length r) 7299 (omega arith), le-leb (getD r 0 0) 1024 (omega arith), le-leb (getD r 1 0) 2048 (omega arith), le-leb (getD r 2 0) 64 (omega arith), sym (q .ensures) ∙ not-false (q .result) (c .before .before .before .if5 .left), sym (p .ensures) ∙ not-true (p .result) (c .if6 .taken))
-
-sub-trees-pass : tie.Need-sub-trees-pass
-sub-trees-pass c = search needs
-
-part-trees-pass-start : tie.Need-part-trees-pass-start
-part-trees-pass-start c = search needs
-
-part-trees-pass-end : tie.Need-part-trees-pass-end
-part-trees-pass-end c = search needs
-
-trees-pass-requires : tie.Need-trees-pass-requires
-trees-pass-requires c κs = search needs
 
 returns-7 : tie.Need-returns-7
 unfolding isElementsTable
@@ -115,25 +70,25 @@ is-elements-table-spec =
     tie.close
     (tie.spec
     returns
-    shared-slice-read-n
+    (λ c. search needs)
     returns-2
-    shared-slice-read-texts
+    (λ c. search needs)
     returns-3
-    shared-slice-read-trees
+    (λ c. search needs)
     returns-4
-    sub-elements-pass
-    part-elements-pass-start
-    part-elements-pass-end
-    elements-pass-requires
+    (λ c. search needs)
+    (λ c. search needs)
+    (λ c. search needs)
+    (λ c κs. search needs)
     returns-5
-    sub-texts-pass
-    part-texts-pass-start
-    part-texts-pass-end
-    texts-pass-requires
+    (λ c. search needs)
+    (λ c. search needs)
+    (λ c. search needs)
+    (λ c κs. search needs)
     returns-6
-    sub-trees-pass
-    part-trees-pass-start
-    part-trees-pass-end
-    trees-pass-requires
+    (λ c. search needs)
+    (λ c. search needs)
+    (λ c. search needs)
+    (λ c κs. search needs)
     returns-7
     returns-8)

@@ -8,12 +8,6 @@ use borrow.Author.Needs.{needs}
 use Rattle.table_test.proofs.elements_test.text_passes.Statement.{statement}
 use Rattle.table_test.proofs.elements_test.text_passes.Tie as tie
 
-shared-slice-read-kind : tie.Need-shared-slice-read-kind
-shared-slice-read-kind c = search needs
-
-shared-slice-read-value : tie.Need-shared-slice-read-value
-shared-slice-read-value c = search needs
-
 returns : tie.Need-returns
 unfolding textPasses
 returns c =
@@ -63,8 +57,8 @@ pub text-passes-spec : {M : Type 1} → statement M
 text-passes-spec =
     tie.close
     (tie.spec
-    shared-slice-read-kind
-    shared-slice-read-value
+    (λ c. search needs)
+    (λ c. search needs)
     returns
     returns-2
     returns-3

@@ -7,18 +7,12 @@ use borrow.Author.Needs.{needs}
 use Rattle.table_test.proofs.elements_test.tree_passes.Statement.{statement}
 use Rattle.table_test.proofs.elements_test.tree_passes.Tie as tie
 
-shared-slice-read-if1 : tie.Need-shared-slice-read-if1
-shared-slice-read-if1 c = search needs
-
 returns : tie.Need-returns
 unfolding treePasses
 returns c =
     let r = c .before .before .args .row .now in
     let n = c .before .before .args .n in
     rw (treePasses, le-ltb (getD r 0 0) 64 (omega arith))
-
-shared-slice-read-if2 : tie.Need-shared-slice-read-if2
-shared-slice-read-if2 c = search needs
 
 returns-2 : tie.Need-returns-2
 unfolding treePasses
@@ -36,4 +30,4 @@ returns-3 c =
 
 pub tree-passes-spec : {M : Type 1} → statement M
 tree-passes-spec =
-    tie.close (tie.spec shared-slice-read-if1 returns shared-slice-read-if2 returns-2 returns-3)
+    tie.close (tie.spec (λ c. search needs) returns (λ c. search needs) returns-2 returns-3)

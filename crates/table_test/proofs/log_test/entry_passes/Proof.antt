@@ -7,18 +7,12 @@ use borrow.Author.Needs.{needs}
 use Rattle.table_test.proofs.log_test.entry_passes.Statement.{statement}
 use Rattle.table_test.proofs.log_test.entry_passes.Tie as tie
 
-shared-slice-read-kind : tie.Need-shared-slice-read-kind
-shared-slice-read-kind c = search needs
-
 returns : tie.Need-returns
 unfolding entryPasses
 returns c =
     let r = c .before .before .args .row .now in
     let n = c .before .before .args .n in
     rw (entryPasses, lt-leb (getD r 0 0) 2 (omega arith))
-
-shared-slice-read-if2 : tie.Need-shared-slice-read-if2
-shared-slice-read-if2 c = search needs
 
 returns-2 : tie.Need-returns-2
 unfolding entryPasses
@@ -27,18 +21,12 @@ returns-2 c =
     let n = c .before .before .before .before .args .n in
     rw (entryPasses, le-leb (getD r 0 0) 2 (omega arith), le-ltb (getD r 1 0) n (omega arith))
 
-shared-slice-read-if4 : tie.Need-shared-slice-read-if4
-shared-slice-read-if4 c = search needs
-
 returns-3 : tie.Need-returns-3
 unfolding entryPasses
 returns-3 c =
     let r = c .before .before .before .before .before .before .before .args .row .now in
     let n = c .before .before .before .before .before .before .before .args .n in
     rw (entryPasses, le-leb (getD r 0 0) 2 (omega arith), lt-ltb (getD r 1 0) n (omega arith), eq-eqb (getD r 0 0) 0 (omega arith), le-ltb (getD r 2 0) n (omega arith))
-
-shared-slice-read-if5 : tie.Need-shared-slice-read-if5
-shared-slice-read-if5 c = search needs
 
 returns-4 : tie.Need-returns-4
 unfolding entryPasses
@@ -54,18 +42,12 @@ returns-5 c =
     let n = c .before .before .before .before .before .before .before .before .before .args .n in
     rw (entryPasses, le-leb (getD r 0 0) 2 (omega arith), lt-ltb (getD r 1 0) n (omega arith), eq-eqb (getD r 0 0) 0 (omega arith), lt-ltb (getD r 2 0) n (omega arith), le-leb (getD r 3 0) n (omega arith), ne-eqb (getD r 0 0) 2 (λ e. omega arith))
 
-shared-slice-read-if6 : tie.Need-shared-slice-read-if6
-shared-slice-read-if6 c = search needs
-
 returns-6 : tie.Need-returns-6
 unfolding entryPasses
 returns-6 c =
     let r = c .before .before .before .before .before .before .before .args .row .now in
     let n = c .before .before .before .before .before .before .before .args .n in
     rw (entryPasses, le-leb (getD r 0 0) 2 (omega arith), lt-ltb (getD r 1 0) n (omega arith), ne-eqb (getD r 0 0) 0 (λ e. omega arith), ne-eqb (getD r 2 0) 0 (λ e. omega arith))
-
-shared-slice-read-if7 : tie.Need-shared-slice-read-if7
-shared-slice-read-if7 c = search needs
 
 returns-7 : tie.Need-returns-7
 unfolding entryPasses
@@ -80,9 +62,6 @@ returns-8 c =
     let r = c .before .before .before .before .before .before .before .before .before .before .args .row .now in
     let n = c .before .before .before .before .before .before .before .before .before .before .args .n in
     rw (entryPasses, le-leb (getD r 0 0) 2 (omega arith), lt-ltb (getD r 1 0) n (omega arith), ne-eqb (getD r 0 0) 0 (λ e. omega arith), eq-eqb (getD r 2 0) 0 (omega arith), eq-eqb (getD r 3 0) 0 (omega arith), ne-eqb (getD r 0 0) 2 (λ e. omega arith))
-
-shared-slice-read-if9 : tie.Need-shared-slice-read-if9
-shared-slice-read-if9 c = search needs
 
 returns-9 : tie.Need-returns-9
 unfolding entryPasses
@@ -102,20 +81,20 @@ pub entry-passes-spec : {M : Type 1} → statement M
 entry-passes-spec =
     tie.close
     (tie.spec
-    shared-slice-read-kind
+    (λ c. search needs)
     returns
-    shared-slice-read-if2
+    (λ c. search needs)
     returns-2
-    shared-slice-read-if4
+    (λ c. search needs)
     returns-3
-    shared-slice-read-if5
+    (λ c. search needs)
     returns-4
     returns-5
-    shared-slice-read-if6
+    (λ c. search needs)
     returns-6
-    shared-slice-read-if7
+    (λ c. search needs)
     returns-7
     returns-8
-    shared-slice-read-if9
+    (λ c. search needs)
     returns-9
     returns-10)

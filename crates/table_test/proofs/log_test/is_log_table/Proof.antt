@@ -14,26 +14,11 @@ returns c =
     let r = c .before .before .args .t .now in
     rw (isLogTable, ne-eqb (length r) 5121 (λ e. omega arith))
 
-shared-slice-read-count : tie.Need-shared-slice-read-count
-shared-slice-read-count c = search needs
-
 returns-2 : tie.Need-returns-2
 unfolding isLogTable
 returns-2 c =
     let r = c .before .before .before .before .args .t .now in
     rw (isLogTable, eq-eqb (length r) 5121 (omega arith), lt-leb (getD r 0 0) 1024 (omega arith))
-
-sub-entries-pass : tie.Need-sub-entries-pass
-sub-entries-pass c = search needs
-
-part-entries-pass-start : tie.Need-part-entries-pass-start
-part-entries-pass-start c = search needs
-
-part-entries-pass-end : tie.Need-part-entries-pass-end
-part-entries-pass-end c = search needs
-
-entries-pass-requires : tie.Need-entries-pass-requires
-entries-pass-requires c κs = search needs
 
 returns-3 : tie.Need-returns-3
 unfolding isLogTable
@@ -54,11 +39,11 @@ is-log-table-spec =
     tie.close
     (tie.spec
     returns
-    shared-slice-read-count
+    (λ c. search needs)
     returns-2
-    sub-entries-pass
-    part-entries-pass-start
-    part-entries-pass-end
-    entries-pass-requires
+    (λ c. search needs)
+    (λ c. search needs)
+    (λ c. search needs)
+    (λ c κs. search needs)
     returns-3
     returns-4)

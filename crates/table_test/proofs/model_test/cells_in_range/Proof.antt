@@ -19,27 +19,12 @@ abbrev μ-loop : tie.MeasureT-loop
 loop-holds : tie.Need-loop-holds Inv-loop μ-loop
 loop-holds c = refl
 
-mul-cell-in-range : tie.Need-mul-cell-in-range Inv-loop μ-loop
-mul-cell-in-range c = search needs
-
-shared-slice-read-cell-in-range : tie.Need-shared-slice-read-cell-in-range Inv-loop μ-loop
-shared-slice-read-cell-in-range c = search needs
-
-cell-in-range-requires : tie.Need-cell-in-range-requires Inv-loop μ-loop
-cell-in-range-requires c κs = search needs
-
 returns : tie.Need-returns Inv-loop μ-loop
 returns c =
     let l = c .before .before .before .before .loop in
     let b = c .before .before .before .before .before .before .args in
     let r = c .before .cell-in-range in
     sym (all-stop (cellInRange (b .n) (b .texts)) (b .s .now) (l .j) 0 (c .before .before .before .loop-test .taken) (sym (r .ensures) ∙ not-true (r .result) (c .if1 .taken))) ∙ l .inv
-
-add-j : tie.Need-add-j Inv-loop μ-loop
-add-j c = search needs
-
-loop-less : tie.Need-loop-less Inv-loop μ-loop
-loop-less c = search needs
 
 loop-again : tie.Need-loop-again Inv-loop μ-loop
 loop-again c =
@@ -60,11 +45,11 @@ cells-in-range-spec =
     Inv-loop
     μ-loop
     loop-holds
-    mul-cell-in-range
-    shared-slice-read-cell-in-range
-    cell-in-range-requires
+    (λ c. search needs)
+    (λ c. search needs)
+    (λ c κs. search needs)
     returns
-    add-j
-    loop-less
+    (λ c. search needs)
+    (λ c. search needs)
     loop-again
     returns-2)

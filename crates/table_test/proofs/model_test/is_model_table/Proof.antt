@@ -8,9 +8,6 @@ use Rattle.table_test.proofs.Laws.ModelTest.{shaped, tested-good}
 use Rattle.table_test.proofs.model_test.is_model_table.Statement.{statement}
 use Rattle.table_test.proofs.model_test.is_model_table.Tie as tie
 
-shape-requires : tie.Need-shape-requires
-shape-requires c κs = search needs
-
 returns : tie.Need-returns
 unfolding isModelTable
 returns c =
@@ -75,7 +72,7 @@ pub is-model-table-spec : {M : Type 1} → statement M
 is-model-table-spec =
     tie.close
     (tie.spec
-    shape-requires
+    (λ c κs. search needs)
     returns
     unused-requires
     returns-2

@@ -15,29 +15,14 @@ Inv-loop t n marks₀ e₀ marks e = OnceLeft t marks e
 abbrev μ-loop : tie.MeasureT-loop
 μ-loop t n marks₀ e₀ marks e = n - e
 
-count-requires : tie.Need-count-requires Inv-loop μ-loop
-count-requires c κs = search needs
-
 loop-holds : tie.Need-loop-holds Inv-loop μ-loop
 loop-holds c = once-start (c .before .before .args .t .now)
-
-add-i : tie.Need-add-i Inv-loop μ-loop
-add-i c = search needs
-
-mul-a : tie.Need-mul-a Inv-loop μ-loop
-mul-a c = search needs
-
-shared-slice-read-a : tie.Need-shared-slice-read-a Inv-loop μ-loop
-shared-slice-read-a c = search needs
 
 add-a : tie.Need-add-a Inv-loop μ-loop
 add-a c =
     let xs = c .before .before .before .before .before .args .t .now in
     let f = list-fits xs (c .before .before .before .before .before .pre) (c .before .before .loop .e) (omega arith) in
     omega arith
-
-list-length-requires : tie.Need-list-length-requires Inv-loop μ-loop
-list-length-requires c κs = search needs
 
 add-b : tie.Need-add-b Inv-loop μ-loop
 add-b c =
@@ -51,23 +36,11 @@ mul-once c =
     let f = list-fits xs (c .before .before .before .before .before .before .pre) (c .before .before .before .loop .e) (omega arith) in
     omega arith
 
-sub-once : tie.Need-sub-once Inv-loop μ-loop
-sub-once c = search needs
-
-part-once-start : tie.Need-part-once-start Inv-loop μ-loop
-part-once-start c = search needs
-
 part-once-end : tie.Need-part-once-end Inv-loop μ-loop
 part-once-end c =
     let xs = c .before .before .before .before .before .before .args .t .now in
     let f = list-fits xs (c .before .before .before .before .before .before .pre) (c .before .before .before .loop .e) (omega arith) in
     omega arith
-
-slice-aggregate-once : tie.Need-slice-aggregate-once Inv-loop μ-loop
-slice-aggregate-once c = search needs
-
-add-once : tie.Need-add-once Inv-loop μ-loop
-add-once c = search needs
 
 once-requires : tie.Need-once-requires Inv-loop μ-loop
 once-requires c κs = (c .before .before .before .before .before .loop .inv .size, λ k. omega (arith, c .before .before .before .before .before .loop .inv .most k))
@@ -80,12 +53,6 @@ returns c =
     let o = c .before .before .once in
     once-stop (b .args .t .now) (l .marks) (l .e) (c .before .before .before .before .before .list-length .result) (b .pre) (l .inv) h (c .before .before .before .before .before .list-length .ensures)
     (o .result) (o .ensures .0) (not-true (o .result) (c .if1 .taken))
-
-add-e : tie.Need-add-e Inv-loop μ-loop
-add-e c = search needs
-
-loop-less : tie.Need-loop-less Inv-loop μ-loop
-loop-less c = search needs
 
 loop-again : tie.Need-loop-again Inv-loop μ-loop
 loop-again c =
@@ -108,23 +75,23 @@ lists-once-spec =
     (tie.spec
     Inv-loop
     μ-loop
-    count-requires
+    (λ c κs. search needs)
     loop-holds
-    add-i
-    mul-a
-    shared-slice-read-a
+    (λ c. search needs)
+    (λ c. search needs)
+    (λ c. search needs)
     add-a
-    list-length-requires
+    (λ c κs. search needs)
     add-b
     mul-once
-    sub-once
-    part-once-start
+    (λ c. search needs)
+    (λ c. search needs)
     part-once-end
-    slice-aggregate-once
-    add-once
+    (λ c. search needs)
+    (λ c. search needs)
     once-requires
     returns
-    add-e
-    loop-less
+    (λ c. search needs)
+    (λ c. search needs)
     loop-again
     returns-2)

@@ -13,44 +13,17 @@ returns c =
     let xs = c .before .before .args .t .now in
     rw (modelShape, ne-eqb (length xs) 5122 (c .if1 .taken))
 
-shared-slice-read-n : tie.Need-shared-slice-read-n
-shared-slice-read-n c = search needs
-
 returns-2 : tie.Need-returns-2
 unfolding modelShape
 returns-2 c =
     let xs = c .before .before .before .before .args .t .now in
     rw (modelShape, eq-eqb (length xs) 5122 (c .before .before .if1 .left), lt-leb (getD xs 0 0) 1024 (c .if2 .taken))
 
-shared-slice-read-if3 : tie.Need-shared-slice-read-if3
-shared-slice-read-if3 c = search needs
-
 returns-3 : tie.Need-returns-3
 unfolding modelShape
 returns-3 c =
     let xs = c .before .before .before .before .before .before .args .t .now in
     rw (modelShape, eq-eqb (length xs) 5122 (c .before .before .before .before .if1 .left), le-leb (getD xs 0 0) 1024 (c .before .before .if2 .left), ne-eqb (getD xs 2049 0) 0 (c .if3 .taken))
-
-add-a : tie.Need-add-a
-add-a c = search needs
-
-add-b : tie.Need-add-b
-add-b c = search needs
-
-mul-rises : tie.Need-mul-rises
-mul-rises c = search needs
-
-sub-rises : tie.Need-sub-rises
-sub-rises c = search needs
-
-part-rises-start : tie.Need-part-rises-start
-part-rises-start c = search needs
-
-part-rises-end : tie.Need-part-rises-end
-part-rises-end c = search needs
-
-rises-requires : tie.Need-rises-requires
-rises-requires c κs = search needs
 
 returns-4 : tie.Need-returns-4
 unfolding modelShape
@@ -64,15 +37,15 @@ shape-spec =
     tie.close
     (tie.spec
     returns
-    shared-slice-read-n
+    (λ c. search needs)
     returns-2
-    shared-slice-read-if3
+    (λ c. search needs)
     returns-3
-    add-a
-    add-b
-    mul-rises
-    sub-rises
-    part-rises-start
-    part-rises-end
-    rises-requires
+    (λ c. search needs)
+    (λ c. search needs)
+    (λ c. search needs)
+    (λ c. search needs)
+    (λ c. search needs)
+    (λ c. search needs)
+    (λ c κs. search needs)
     returns-4)

@@ -20,18 +20,6 @@ abbrev μ-loop : tie.MeasureT-loop
 loop-holds : tie.Need-loop-holds Inv-loop μ-loop
 loop-holds c = refl
 
-mul-a : tie.Need-mul-a Inv-loop μ-loop
-mul-a c = search needs
-
-add-b : tie.Need-add-b Inv-loop μ-loop
-add-b c = search needs
-
-mul-file : tie.Need-mul-file Inv-loop μ-loop
-mul-file c = search needs
-
-shared-slice-read-file : tie.Need-shared-slice-read-file Inv-loop μ-loop
-shared-slice-read-file c = search needs
-
 returns : tie.Need-returns Inv-loop μ-loop
 returns c =
     let l = c .before .before .before .loop in
@@ -48,12 +36,6 @@ returns-2 c =
     let v = getD (a .area .now) (l .i * 2 + 1) 0 in
     file-stop (a .count) (a .area .now) (l .low) (l .i) (c .before .before .before .loop-test .taken) (rw (le-leb (l .low) f (omega arith), le-ltb f 64 (omega arith))) (l .inv)
 
-mul-if3 : tie.Need-mul-if3 Inv-loop μ-loop
-mul-if3 c = search needs
-
-shared-slice-read-if3 : tie.Need-shared-slice-read-if3 Inv-loop μ-loop
-shared-slice-read-if3 c = search needs
-
 returns-3 : tie.Need-returns-3 Inv-loop μ-loop
 returns-3 c =
     let l = c .before .before .before .before .before .before .loop in
@@ -61,15 +43,6 @@ returns-3 c =
     let f = getD (a .area .now) (l .i * 2) 0 in
     let v = getD (a .area .now) (l .i * 2 + 1) 0 in
     file-stop (a .count) (a .area .now) (l .low) (l .i) (c .before .before .before .before .before .loop-test .taken) (rw (le-leb (l .low) f (omega arith), lt-ltb f 64 (omega arith), le-ltb v 32 (omega arith))) (l .inv)
-
-add-low : tie.Need-add-low Inv-loop μ-loop
-add-low c = search needs
-
-add-i : tie.Need-add-i Inv-loop μ-loop
-add-i c = search needs
-
-loop-less : tie.Need-loop-less Inv-loop μ-loop
-loop-less c = search needs
 
 loop-again : tie.Need-loop-again Inv-loop μ-loop
 loop-again c =
@@ -79,24 +52,6 @@ loop-again c =
     let v = getD (a .area .now) (l .i * 2 + 1) 0 in
     file-more (a .count) (a .area .now) (l .low) (l .i) (c .before .before .before .before .before .loop-test .taken) (rw (le-leb (l .low) f (omega arith), lt-ltb f 64 (omega arith), lt-ltb v 32 (omega arith))) (l .inv)
 
-mul-end : tie.Need-mul-end Inv-loop μ-loop
-mul-end c = search needs
-
-mul-all-zero : tie.Need-mul-all-zero Inv-loop μ-loop
-mul-all-zero c = search needs
-
-sub-all-zero : tie.Need-sub-all-zero Inv-loop μ-loop
-sub-all-zero c = search needs
-
-part-all-zero-start : tie.Need-part-all-zero-start Inv-loop μ-loop
-part-all-zero-start c = search needs
-
-part-all-zero-end : tie.Need-part-all-zero-end Inv-loop μ-loop
-part-all-zero-end c = search needs
-
-all-zero-requires : tie.Need-all-zero-requires Inv-loop μ-loop
-all-zero-requires c κs = search needs
-
 returns-4 : tie.Need-returns-4 Inv-loop μ-loop
 returns-4 c =
     let l = c .before .before .before .loop in
@@ -104,4 +59,4 @@ returns-4 c =
     file-end (a .count) (a .area .now) (l .low) (l .i) (c .before .before .loop-test .left) (l .inv) (c .all-zero .result) (c .all-zero .ensures)
 
 pub files-pass-spec : {M : Type 1} → statement M
-files-pass-spec = tie.close (tie.spec Inv-loop μ-loop loop-holds mul-a add-b mul-file shared-slice-read-file returns returns-2 mul-if3 shared-slice-read-if3 returns-3 add-low add-i loop-less loop-again mul-end mul-all-zero sub-all-zero part-all-zero-start part-all-zero-end all-zero-requires returns-4)
+files-pass-spec = tie.close (tie.spec Inv-loop μ-loop loop-holds (λ c. search needs) (λ c. search needs) (λ c. search needs) (λ c. search needs) returns returns-2 (λ c. search needs) (λ c. search needs) returns-3 (λ c. search needs) (λ c. search needs) (λ c. search needs) loop-again (λ c. search needs) (λ c. search needs) (λ c. search needs) (λ c. search needs) (λ c. search needs) (λ c κs. search needs) returns-4)

@@ -7,26 +7,17 @@ use borrow.Author.Needs.{needs}
 use Rattle.table_test.proofs.schema_test.type_passes.Statement.{statement}
 use Rattle.table_test.proofs.schema_test.type_passes.Tie as tie
 
-shared-slice-read-if1 : tie.Need-shared-slice-read-if1
-shared-slice-read-if1 c = search needs
-
 returns : tie.Need-returns
 unfolding typePasses
 returns c =
     let r = c .before .before .args .row .now in
     rw (typePasses, lt-leb (getD r 0 0) 4 (omega arith))
 
-shared-slice-read-if2 : tie.Need-shared-slice-read-if2
-shared-slice-read-if2 c = search needs
-
 returns-2 : tie.Need-returns-2
 unfolding typePasses
 returns-2 c =
     let r = c .before .before .before .before .args .row .now in
     rw (typePasses, le-leb (getD r 0 0) 4 (omega arith), lt-leb (getD r 1 0) 1 (omega arith))
-
-shared-slice-read-if3 : tie.Need-shared-slice-read-if3
-shared-slice-read-if3 c = search needs
 
 returns-3 : tie.Need-returns-3
 unfolding typePasses
@@ -41,4 +32,4 @@ returns-4 c =
     rw (typePasses, le-leb (getD r 0 0) 4 (omega arith), le-leb (getD r 1 0) 1 (omega arith), lt-ltb (getD r 2 0) 4294967296 (omega arith))
 
 pub type-passes-spec : {M : Type 1} → statement M
-type-passes-spec = tie.close (tie.spec shared-slice-read-if1 returns shared-slice-read-if2 returns-2 shared-slice-read-if3 returns-3 returns-4)
+type-passes-spec = tie.close (tie.spec (λ c. search needs) returns (λ c. search needs) returns-2 (λ c. search needs) returns-3 returns-4)

@@ -18,14 +18,8 @@ Inv-loop elements model n e₀ e = listsDeeper (elementsOf elements .depths) e (
 abbrev μ-loop : tie.MeasureT-loop
 μ-loop elements model n e₀ e = n - e
 
-count-requires : tie.Need-count-requires Inv-loop μ-loop
-count-requires c κs = search needs
-
 loop-holds : tie.Need-loop-holds Inv-loop μ-loop
 loop-holds c = refl
-
-list-deeper-requires : tie.Need-list-deeper-requires Inv-loop μ-loop
-list-deeper-requires c κs = search needs
 
 returns : tie.Need-returns Inv-loop μ-loop
 returns c =
@@ -35,12 +29,6 @@ returns c =
     let k = c .before .before .before .before .count .ensures in
     let r = c .before .list-deeper in
     owner-stop (elementsOf (a .elements .now) .depths) (modelOf (a .model .now) .lists) (l .e) (omega arith) (sym (r .ensures) ∙ not-true (r .result) (c .if1 .taken)) (l .inv)
-
-add-e : tie.Need-add-e Inv-loop μ-loop
-add-e c = search needs
-
-loop-less : tie.Need-loop-less Inv-loop μ-loop
-loop-less c = search needs
 
 loop-again : tie.Need-loop-again Inv-loop μ-loop
 loop-again c =
@@ -60,4 +48,4 @@ returns-2 c =
     owner-end (elementsOf (a .elements .now) .depths) (modelOf (a .model .now) .lists) (l .e) (omega arith) (l .inv)
 
 pub depths-pass-spec : {M : Type 1} → statement M
-depths-pass-spec = tie.close (tie.spec Inv-loop μ-loop count-requires loop-holds list-deeper-requires returns add-e loop-less loop-again returns-2)
+depths-pass-spec = tie.close (tie.spec Inv-loop μ-loop (λ c κs. search needs) loop-holds (λ c κs. search needs) returns (λ c. search needs) (λ c. search needs) loop-again returns-2)

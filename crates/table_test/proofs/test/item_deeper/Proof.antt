@@ -4,17 +4,8 @@ use borrow.Author.Needs.{needs}
 use Rattle.table_test.proofs.test.item_deeper.Statement.{statement}
 use Rattle.table_test.proofs.test.item_deeper.Tie as tie
 
-enum-known-a : tie.Need-enum-known-a
-enum-known-a c = search needs
-
 element-depth-requires : tie.Need-element-depth-requires
 element-depth-requires c κs = let h = rw (c .before .a .given .1) at (c .before .before .before .before .pre .1) in search needs
-
-add-result : tie.Need-add-result
-add-result c = search needs
-
-enum-told : tie.Need-enum-told
-enum-told c = search needs
 
 returns : tie.Need-returns
 unfolding itemDeeper
@@ -25,4 +16,4 @@ unfolding itemDeeper
 returns-2 c = search needs
 
 pub item-deeper-spec : {M : Type 1} → statement M
-item-deeper-spec = tie.close (tie.spec enum-known-a element-depth-requires add-result enum-told returns returns-2)
+item-deeper-spec = tie.close (tie.spec (λ c. search needs) element-depth-requires (λ c. search needs) (λ c. search needs) returns returns-2)

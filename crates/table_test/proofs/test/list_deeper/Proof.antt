@@ -21,17 +21,8 @@ Inv-loop elements model e d n i₀ i = allOf (itemDeeper (elementsOf elements .d
 abbrev μ-loop : tie.MeasureT-loop
 μ-loop elements model e d n i₀ i = n - i
 
-element-depth-requires : tie.Need-element-depth-requires Inv-loop μ-loop
-element-depth-requires c κs = search needs
-
-list-length-requires : tie.Need-list-length-requires Inv-loop μ-loop
-list-length-requires c κs = search needs
-
 loop-holds : tie.Need-loop-holds Inv-loop μ-loop
 loop-holds c = refl
-
-item-at-requires : tie.Need-item-at-requires Inv-loop μ-loop
-item-at-requires c κs = search needs
 
 item-deeper-requires : tie.Need-item-deeper-requires Inv-loop μ-loop
 item-deeper-requires c κs =
@@ -53,12 +44,6 @@ returns c =
     let r = c .before .item-deeper in
     item-stop (elementsOf (a .elements .now) .depths) (listOf (modelOf (a .model .now)) (a .e)) (a .e) _ (l .i) _ f (c .before .before .item-at .ensures) (omega arith) (sym (r .ensures) ∙ not-true (r .result) (c .if1 .taken)) (l .inv)
 
-add-i : tie.Need-add-i Inv-loop μ-loop
-add-i c = search needs
-
-loop-less : tie.Need-loop-less Inv-loop μ-loop
-loop-less c = search needs
-
 loop-again : tie.Need-loop-again Inv-loop μ-loop
 loop-again c =
     let a = c .before .before .before .before .before .before .before .before .before .args in
@@ -79,4 +64,4 @@ returns-2 c =
     sym (all-end (itemDeeper (elementsOf (a .elements .now) .depths) (getD (elementsOf (a .elements .now) .depths) (a .e) 0)) (listOf (modelOf (a .model .now)) (a .e)) (l .i) (omega arith)) ∙ l .inv
 
 pub list-deeper-spec : {M : Type 1} → statement M
-list-deeper-spec = tie.close (tie.spec Inv-loop μ-loop element-depth-requires list-length-requires loop-holds item-at-requires item-deeper-requires returns add-i loop-less loop-again returns-2)
+list-deeper-spec = tie.close (tie.spec Inv-loop μ-loop (λ c κs. search needs) (λ c κs. search needs) loop-holds (λ c κs. search needs) item-deeper-requires returns (λ c. search needs) (λ c. search needs) loop-again returns-2)

@@ -11,9 +11,6 @@ use borrow.Author.Needs.{needs}
 use Rattle.table_test.proofs.test.tables_pass.Statement.{statement}
 use Rattle.table_test.proofs.test.tables_pass.Tie as tie
 
-is-schema-table-requires : tie.Need-is-schema-table-requires
-is-schema-table-requires c κs = search needs
-
 returns : tie.Need-returns
 unfolding tablesPass
 returns c =
@@ -33,9 +30,6 @@ shared-slice-read-is-elements-table c =
     let q = c .before .before .is-schema-table in
     let s = schema-length sc (sym (q .ensures) ∙ not-false (q .result) (c .before .if1 .left)) in
     search needs
-
-is-elements-table-requires : tie.Need-is-elements-table-requires
-is-elements-table-requires c κs = search needs
 
 returns-2 : tie.Need-returns-2
 unfolding tablesPass
@@ -88,9 +82,6 @@ shared-slice-read-is-log-table c =
     let p = c .before .before .before .before .before .is-elements-table in
     let s = elements-length (getD sc 0 0) (length (a .deck .now)) es (sym (p .ensures) ∙ not-false (p .result) (c .before .before .before .before .if2 .left)) in
     search needs
-
-is-log-table-requires : tie.Need-is-log-table-requires
-is-log-table-requires c κs = search needs
 
 returns-4 : tie.Need-returns-4
 unfolding tablesPass
@@ -178,4 +169,4 @@ returns-7 c =
     rw (tablesPass, sym (q .ensures) ∙ not-false (q .result) (c .before .before .before .before .before .before .before .before .before .before .before .before .before .before .if1 .left), sym (p .ensures) ∙ not-false (p .result) (c .before .before .before .before .before .before .before .before .before .before .before .if2 .left), sym (o .ensures) ∙ not-false (o .result) (c .before .before .before .before .before .before .before .before .if3 .left), sym (n .ensures) ∙ not-false (n .result) (c .before .before .before .before .before .if4 .left), eq-eqb (getD m 0 0) (getD es 0 0) (omega arith), sym (d .ensures) ∙ not-false (d .result) (c .if6 .left))
 
 pub tables-pass-spec : {M : Type 1} → statement M
-tables-pass-spec = tie.close (tie.spec is-schema-table-requires returns shared-slice-read-is-elements-table is-elements-table-requires returns-2 shared-slice-read-is-model-table is-model-table-requires returns-3 shared-slice-read-is-log-table is-log-table-requires returns-4 shared-slice-read-if5 shared-slice-read-if5-2 returns-5 depths-pass-requires returns-6 returns-7)
+tables-pass-spec = tie.close (tie.spec (λ c κs. search needs) returns shared-slice-read-is-elements-table (λ c κs. search needs) returns-2 shared-slice-read-is-model-table is-model-table-requires returns-3 shared-slice-read-is-log-table (λ c κs. search needs) returns-4 shared-slice-read-if5 shared-slice-read-if5-2 returns-5 depths-pass-requires returns-6 returns-7)

@@ -4,27 +4,9 @@ use borrow.Author.Needs.{needs}
 use Rattle.tables.proofs.cells.put2.Statement.{statement}
 use Rattle.tables.proofs.cells.put2.Tie as tie
 
-add-second : tie.Need-add-second
-add-second c = search needs
-
-mul-s : tie.Need-mul-s
-mul-s c = search needs
-
-slice-write-s : tie.Need-slice-write-s
-slice-write-s c = search needs
-
-mul-s-2 : tie.Need-mul-s-2
-mul-s-2 c = search needs
-
 slice-write-s-2 : tie.Need-slice-write-s-2
 slice-write-s-2 c = simp length-set (omega arith)
 
-same-length : tie.Need-same-length
-same-length c = search needs
-
-returns : tie.Need-returns
-returns c = search needs
-
 pub put2-spec : {M : Type 1} → statement M
 put2-spec =
-    tie.close (tie.spec add-second mul-s slice-write-s mul-s-2 slice-write-s-2 same-length returns)
+    tie.close (tie.spec (λ c. search needs) (λ c. search needs) (λ c. search needs) (λ c. search needs) slice-write-s-2 (λ c. search needs) (λ c. search needs))

@@ -4,24 +4,6 @@ use Rattle.tables.proofs.Laws.LogTable.{import-is, restriction-is, exte
 use Rattle.tables.proofs.log.entry_at.Statement.{statement}
 use Rattle.tables.proofs.log.entry_at.Tie as tie
 
-entry-cell-requires : tie.Need-entry-cell-requires
-entry-cell-requires c κs = search needs
-
-entry-cell-requires-2 : tie.Need-entry-cell-requires-2
-entry-cell-requires-2 c κs = search needs
-
-entry-cell-requires-3 : tie.Need-entry-cell-requires-3
-entry-cell-requires-3 c κs = search needs
-
-entry-cell-requires-4 : tie.Need-entry-cell-requires-4
-entry-cell-requires-4 c κs = search needs
-
-entry-cell-requires-5 : tie.Need-entry-cell-requires-5
-entry-cell-requires-5 c κs = search needs
-
-cell-parent-requires : tie.Need-cell-parent-requires
-cell-parent-requires c κs = search needs
-
 returns : tie.Need-returns
 returns c =
     let b = c .before .before .before .before .before .before .before .before in
@@ -45,12 +27,12 @@ pub entry-at-spec : {M : Type 1} → statement M
 entry-at-spec =
     tie.close
     (tie.spec
-    entry-cell-requires
-    entry-cell-requires-2
-    entry-cell-requires-3
-    entry-cell-requires-4
-    entry-cell-requires-5
-    cell-parent-requires
+    (λ c κs. search needs)
+    (λ c κs. search needs)
+    (λ c κs. search needs)
+    (λ c κs. search needs)
+    (λ c κs. search needs)
+    (λ c κs. search needs)
     returns
     returns-2
     returns-3)

@@ -3,17 +3,8 @@ use Rattle.tables.specs.LogTable.{entryCells}
 use Rattle.tables.proofs.log.entry_cells.Statement.{statement}
 use Rattle.tables.proofs.log.entry_cells.Tie as tie
 
-enum-known-e : tie.Need-enum-known-e
-enum-known-e c = search needs
-
 parent-cell-requires : tie.Need-parent-cell-requires
 parent-cell-requires c κs = let h = rw (c .before .e .given .1) at (c .before .before .before .pre) in h .2
-
-enum-known-e-2 : tie.Need-enum-known-e-2
-enum-known-e-2 c = search needs
-
-enum-known-e-3 : tie.Need-enum-known-e-3
-enum-known-e-3 c = search needs
 
 returns : tie.Need-returns
 unfolding entryCells
@@ -31,10 +22,10 @@ pub entry-cells-spec : {M : Type 1} → statement M
 entry-cells-spec =
     tie.close
     (tie.spec
-    enum-known-e
+    (λ c. search needs)
     parent-cell-requires
-    enum-known-e-2
-    enum-known-e-3
+    (λ c. search needs)
+    (λ c. search needs)
     returns
     returns-2
     returns-3)

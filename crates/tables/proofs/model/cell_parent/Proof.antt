@@ -8,11 +8,8 @@ use Rattle.tables.proofs.model.cell_parent.Tie as tie
 returns : tie.Need-returns
 returns c = cellParent-zero _ (c .if1 .taken)
 
-sub-t3 : tie.Need-sub-t3
-sub-t3 c = search needs
-
 returns-2 : tie.Need-returns-2
 returns-2 c = cellParent-some _ (c .if1 .left)
 
 pub cell-parent-spec : {M : Type 1} → statement M
-cell-parent-spec = tie.close (tie.spec returns sub-t3 returns-2)
+cell-parent-spec = tie.close (tie.spec returns (λ c. search needs) returns-2)

@@ -4,11 +4,8 @@ use Rattle.tables.proofs.Laws.ModelTable.{read-count}
 use Rattle.tables.proofs.model.count.Statement.{statement}
 use Rattle.tables.proofs.model.count.Tie as tie
 
-shared-slice-read-result : tie.Need-shared-slice-read-result
-shared-slice-read-result c = search needs
-
 returns : tie.Need-returns
 returns c = read-count (c .before .args .model .now) (c .before .pre)
 
 pub count-spec : {M : Type 1} → statement M
-count-spec = tie.close (tie.spec shared-slice-read-result returns)
+count-spec = tie.close (tie.spec (λ c. search needs) returns)

@@ -10,58 +10,10 @@ use Rattle.tables.proofs.Laws.ModelTable.{item-weaker, insert-starts, s
 use Rattle.tables.proofs.model.insert_item.Statement.{statement}
 use Rattle.tables.proofs.model.insert_item.Tie as tie
 
-count-requires : tie.Need-count-requires
-count-requires c κs = search needs
-
-item-total-requires : tie.Need-item-total-requires
-item-total-requires c κs = search needs
-
-start-of-requires : tie.Need-start-of-requires
-start-of-requires c κs = search needs
-
-add-at : tie.Need-add-at
-add-at c = search needs
-
 item-cell-requires : tie.Need-item-cell-requires
 item-cell-requires c κs =
     let b = c .before .before .before .before .before .before .before in
     item-weaker _ _ (itemIs (b .args .a)) (b .pre .0 .sized .count) (b .pre .1 .1 .1 .1)
-
-add-end : tie.Need-add-end
-add-end c = search needs
-
-add-end-2 : tie.Need-add-end-2
-add-end-2 c = search needs
-
-sub-shift-in : tie.Need-sub-shift-in
-sub-shift-in c = search needs
-
-part-shift-in-start : tie.Need-part-shift-in-start
-part-shift-in-start c = search needs
-
-part-shift-in-end : tie.Need-part-shift-in-end
-part-shift-in-end c = search needs
-
-shift-in-requires : tie.Need-shift-in-requires
-shift-in-requires c κs = search needs
-
-add-last : tie.Need-add-last
-add-last c = search needs
-
-add-last-2 : tie.Need-add-last-2
-add-last-2 c = search needs
-
-add-later : tie.Need-add-later
-add-later c = search needs
-
-sub-raise-from : tie.Need-sub-raise-from
-sub-raise-from c = search needs
-
-part-raise-from-start : tie.Need-part-raise-from-start
-part-raise-from-start c = search needs
-
-part-raise-from-end : tie.Need-part-raise-from-end
-part-raise-from-end c = search needs
 
 -- where the items are back: how many cells were lent, and what the shift left in them
 items-lent : (c : tie.After-slice-known2) → itemsAt + c .before .before .before .before .before .before .before .item-total .result + 1 - itemsAt ≡ suc (contentItems (modelOf (c .before .before .before .before .before .before .before .before .before .before .before .before .args .model .now)))
@@ -102,23 +54,23 @@ pub insert-item-spec : {M : Type 1} → statement M
 insert-item-spec =
     tie.close
     (tie.spec
-    count-requires
-    item-total-requires
-    start-of-requires
-    add-at
+    (λ c κs. search needs)
+    (λ c κs. search needs)
+    (λ c κs. search needs)
+    (λ c. search needs)
     item-cell-requires
-    add-end
-    add-end-2
-    sub-shift-in
-    part-shift-in-start
-    part-shift-in-end
-    shift-in-requires
-    add-last
-    add-last-2
-    add-later
-    sub-raise-from
-    part-raise-from-start
-    part-raise-from-end
+    (λ c. search needs)
+    (λ c. search needs)
+    (λ c. search needs)
+    (λ c. search needs)
+    (λ c. search needs)
+    (λ c κs. search needs)
+    (λ c. search needs)
+    (λ c. search needs)
+    (λ c. search needs)
+    (λ c. search needs)
+    (λ c. search needs)
+    (λ c. search needs)
     raise-from-requires
     same-length
     returns)

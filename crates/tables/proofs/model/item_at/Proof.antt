@@ -11,21 +11,6 @@ start-of-requires c κs =
     let b = c .before in
     (b .pre .0, listed-below (b .args .model .now) (b .pre .0) (b .args .e .0) (b .args .i) (b .pre .1))
 
-add-at : tie.Need-add-at
-add-at c = search needs
-
-add-j : tie.Need-add-j
-add-j c = search needs
-
-mul-cell-item : tie.Need-mul-cell-item
-mul-cell-item c = search needs
-
-shared-slice-read-cell-item : tie.Need-shared-slice-read-cell-item
-shared-slice-read-cell-item c = search needs
-
-cell-item-requires : tie.Need-cell-item-requires
-cell-item-requires c κs = search needs
-
 returns : tie.Need-returns
 returns c =
     let b = c .before .before .before .before in
@@ -39,9 +24,9 @@ item-at-spec =
     tie.close
     (tie.spec
     start-of-requires
-    add-at
-    add-j
-    mul-cell-item
-    shared-slice-read-cell-item
-    cell-item-requires
+    (λ c. search needs)
+    (λ c. search needs)
+    (λ c. search needs)
+    (λ c. search needs)
+    (λ c κs. search needs)
     returns)

@@ -6,12 +6,6 @@ use Rattle.tables.specs.ModelTable.{itemCell}
 use Rattle.tables.proofs.model.item_cell.Statement.{statement}
 use Rattle.tables.proofs.model.item_cell.Tie as tie
 
-enum-known-a : tie.Need-enum-known-a
-enum-known-a c = search needs
-
-enum-known-a-2 : tie.Need-enum-known-a-2
-enum-known-a-2 c = search needs
-
 add-result : tie.Need-add-result
 add-result c =
     let t = c .before .a2 .given .0 .0 in
@@ -27,4 +21,4 @@ unfolding itemCell
 returns-2 c = rw (c .before .a2 .given .1)
 
 pub item-cell-spec : {M : Type 1} → statement M
-item-cell-spec = tie.close (tie.spec enum-known-a enum-known-a-2 add-result returns returns-2)
+item-cell-spec = tie.close (tie.spec (λ c. search needs) (λ c. search needs) add-result returns returns-2)

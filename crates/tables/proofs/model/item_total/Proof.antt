@@ -6,18 +6,6 @@ use Rattle.tables.proofs.Laws.ModelTable.{read-start, start-total}
 use Rattle.tables.proofs.model.item_total.Statement.{statement}
 use Rattle.tables.proofs.model.item_total.Tie as tie
 
-count-requires : tie.Need-count-requires
-count-requires c κs = search needs
-
-add-i : tie.Need-add-i
-add-i c = search needs
-
-mul-result : tie.Need-mul-result
-mul-result c = search needs
-
-shared-slice-read-result : tie.Need-shared-slice-read-result
-shared-slice-read-result c = search needs
-
 returns : tie.Need-returns
 returns c =
     let b = c .before .before .before in
@@ -25,4 +13,4 @@ returns c =
 
 pub item-total-spec : {M : Type 1} → statement M
 item-total-spec =
-    tie.close (tie.spec count-requires add-i mul-result shared-slice-read-result returns)
+    tie.close (tie.spec (λ c κs. search needs) (λ c. search needs) (λ c. search needs) (λ c. search needs) returns)

@@ -7,17 +7,11 @@ use Rattle.tables.specs.ModelTable.{parentCell}
 use Rattle.tables.proofs.model.parent_cell.Statement.{statement}
 use Rattle.tables.proofs.model.parent_cell.Tie as tie
 
-enum-known-p : tie.Need-enum-known-p
-enum-known-p c = search needs
-
 add-result : tie.Need-add-result
 add-result c =
     let e = c .before .p .given .0 .0 .0 in
     let h : e < 1024 = rw (c .before .p .given .1) at (c .before .before .before .pre) in
     omega arith
-
-enum-told : tie.Need-enum-told
-enum-told c = search needs
 
 returns : tie.Need-returns
 unfolding parentCell
@@ -28,4 +22,4 @@ unfolding parentCell
 returns-2 c = rw (c .enum-told .given .1)
 
 pub parent-cell-spec : {M : Type 1} → statement M
-parent-cell-spec = tie.close (tie.spec enum-known-p add-result enum-told returns returns-2)
+parent-cell-spec = tie.close (tie.spec (λ c. search needs) add-result (λ c. search needs) returns returns-2)

@@ -6,18 +6,6 @@ use Rattle.tables.proofs.Laws.ModelTable.{read-parent, cellParent-back}
 use Rattle.tables.proofs.model.parent_of.Statement.{statement}
 use Rattle.tables.proofs.model.parent_of.Tie as tie
 
-add-i : tie.Need-add-i
-add-i c = search needs
-
-mul-cell-parent : tie.Need-mul-cell-parent
-mul-cell-parent c = search needs
-
-shared-slice-read-cell-parent : tie.Need-shared-slice-read-cell-parent
-shared-slice-read-cell-parent c = search needs
-
-cell-parent-requires : tie.Need-cell-parent-requires
-cell-parent-requires c κs = search needs
-
 returns : tie.Need-returns
 returns c =
     let b = c .before .before .before .before in
@@ -26,4 +14,4 @@ returns c =
 pub parent-of-spec : {M : Type 1} → statement M
 parent-of-spec =
     tie.close
-    (tie.spec add-i mul-cell-parent shared-slice-read-cell-parent cell-parent-requires returns)
+    (tie.spec (λ c. search needs) (λ c. search needs) (λ c. search needs) (λ c κs. search needs) returns)

@@ -21,26 +21,8 @@ abbrev μ-loop : tie.MeasureT-loop
 loop-holds : tie.Need-loop-holds Inv-loop μ-loop
 loop-holds c = (refl, refl, λ k h. c .pre k)
 
-mul-s : tie.Need-mul-s Inv-loop μ-loop
-mul-s c = search needs
-
-slice-read-s : tie.Need-slice-read-s Inv-loop μ-loop
-slice-read-s c = search needs
-
 add-s : tie.Need-add-s Inv-loop μ-loop
 add-s c = omega (arith, c .before .before .loop .inv .2 (c .before .before .loop .j) (le-refl (c .before .before .loop .j)))
-
-mul-s-2 : tie.Need-mul-s-2 Inv-loop μ-loop
-mul-s-2 c = search needs
-
-slice-write-s : tie.Need-slice-write-s Inv-loop μ-loop
-slice-write-s c = search needs
-
-add-j : tie.Need-add-j Inv-loop μ-loop
-add-j c = search needs
-
-loop-less : tie.Need-loop-less Inv-loop μ-loop
-loop-less c = search needs
 
 loop-again : tie.Need-loop-again Inv-loop μ-loop
 loop-again c =
@@ -49,9 +31,6 @@ loop-again c =
       simp length-set (l .inv .1),
       λ k h. rw (getD-set-other (l .s) (l .j) k (getD (l .s) (l .j) 0 + 1) 0 (omega arith)) (l .inv .2 k (omega arith)),
     )
-
-same-length : tie.Need-same-length Inv-loop μ-loop
-same-length c = search needs
 
 returns : tie.Need-returns Inv-loop μ-loop
 returns c =
@@ -65,13 +44,13 @@ raise-from-spec =
     Inv-loop
     μ-loop
     loop-holds
-    mul-s
-    slice-read-s
+    (λ c. search needs)
+    (λ c. search needs)
     add-s
-    mul-s-2
-    slice-write-s
-    add-j
-    loop-less
+    (λ c. search needs)
+    (λ c. search needs)
+    (λ c. search needs)
+    (λ c. search needs)
     loop-again
-    same-length
+    (λ c. search needs)
     returns)

@@ -10,51 +10,6 @@ use Rattle.tables.proofs.Laws.ModelTable.{remove-starts, starts-some, s
 use Rattle.tables.proofs.model.remove_item.Statement.{statement}
 use Rattle.tables.proofs.model.remove_item.Tie as tie
 
-count-requires : tie.Need-count-requires
-count-requires c κs = search needs
-
-item-total-requires : tie.Need-item-total-requires
-item-total-requires c κs = search needs
-
-start-of-requires : tie.Need-start-of-requires
-start-of-requires c κs = search needs
-
-add-at : tie.Need-add-at
-add-at c = search needs
-
-add-end : tie.Need-add-end
-add-end c = search needs
-
-sub-shift-out : tie.Need-sub-shift-out
-sub-shift-out c = search needs
-
-part-shift-out-start : tie.Need-part-shift-out-start
-part-shift-out-start c = search needs
-
-part-shift-out-end : tie.Need-part-shift-out-end
-part-shift-out-end c = search needs
-
-shift-out-requires : tie.Need-shift-out-requires
-shift-out-requires c κs = search needs
-
-add-last : tie.Need-add-last
-add-last c = search needs
-
-add-last-2 : tie.Need-add-last-2
-add-last-2 c = search needs
-
-add-next : tie.Need-add-next
-add-next c = search needs
-
-sub-lower-from : tie.Need-sub-lower-from
-sub-lower-from c = search needs
-
-part-lower-from-start : tie.Need-part-lower-from-start
-part-lower-from-start c = search needs
-
-part-lower-from-end : tie.Need-part-lower-from-end
-part-lower-from-end c = search needs
-
 -- where the items are back: how many cells were lent, and what the shift left in them
 items-lent : (c : tie.After-slice-known2) → itemsAt + c .before .before .before .before .before .before .item-total .result - itemsAt ≡ contentItems (modelOf (c .before .before .before .before .before .before .before .before .before .before .before .args .model .now))
 items-lent c = omega (arith, c .before .before .before .before .before .before .item-total .ensures)
@@ -92,21 +47,21 @@ pub remove-item-spec : {M : Type 1} → statement M
 remove-item-spec =
     tie.close
     (tie.spec
-    count-requires
-    item-total-requires
-    start-of-requires
-    add-at
-    add-end
-    sub-shift-out
-    part-shift-out-start
-    part-shift-out-end
-    shift-out-requires
-    add-last
-    add-last-2
-    add-next
-    sub-lower-from
-    part-lower-from-start
-    part-lower-from-end
+    (λ c κs. search needs)
+    (λ c κs. search needs)
+    (λ c κs. search needs)
+    (λ c. search needs)
+    (λ c. search needs)
+    (λ c. search needs)
+    (λ c. search needs)
+    (λ c. search needs)
+    (λ c κs. search needs)
+    (λ c. search needs)
+    (λ c. search needs)
+    (λ c. search needs)
+    (λ c. search needs)
+    (λ c. search needs)
+    (λ c. search needs)
     lower-from-requires
     same-length
     returns)

@@ -4,19 +4,10 @@ use Rattle.tables.proofs.Laws.ModelTable.{read-set}
 use Rattle.tables.proofs.model.set_of.Statement.{statement}
 use Rattle.tables.proofs.model.set_of.Tie as tie
 
-add-i : tie.Need-add-i
-add-i c = search needs
-
-mul-t4 : tie.Need-mul-t4
-mul-t4 c = search needs
-
-shared-slice-read-t6 : tie.Need-shared-slice-read-t6
-shared-slice-read-t6 c = search needs
-
 returns : tie.Need-returns
 returns c =
     let b = c .before .before in
     read-set (b .args .model .now) (b .pre .0) (b .args .e .0) (b .pre .1)
 
 pub set-of-spec : {M : Type 1} → statement M
-set-of-spec = tie.close (tie.spec add-i mul-t4 shared-slice-read-t6 returns)
+set-of-spec = tie.close (tie.spec (λ c. search needs) (λ c. search needs) (λ c. search needs) returns)

@@ -5,22 +5,10 @@ use Rattle.tables.proofs.Laws.ModelTable.{store-parent, parent-weaker}
 use Rattle.tables.proofs.model.set_parent.Statement.{statement}
 use Rattle.tables.proofs.model.set_parent.Tie as tie
 
-add-i : tie.Need-add-i
-add-i c = search needs
-
 parent-cell-requires : tie.Need-parent-cell-requires
 parent-cell-requires c κs =
     let b = c .before .before in
     parent-weaker _ _ (parentIs (b .args .p)) (b .pre .0 .sized .count) (b .pre .1 .1)
-
-mul-model : tie.Need-mul-model
-mul-model c = search needs
-
-slice-write-model : tie.Need-slice-write-model
-slice-write-model c = search needs
-
-same-length : tie.Need-same-length
-same-length c = search needs
 
 returns : tie.Need-returns
 returns c =
@@ -29,4 +17,4 @@ returns c =
 
 pub set-parent-spec : {M : Type 1} → statement M
 set-parent-spec =
-    tie.close (tie.spec add-i parent-cell-requires mul-model slice-write-model same-length returns)
+    tie.close (tie.spec (λ c. search needs) parent-cell-requires (λ c. search needs) (λ c. search needs) (λ c. search needs) returns)

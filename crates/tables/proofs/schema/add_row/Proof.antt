@@ -5,30 +5,6 @@ use Rattle.tables.proofs.Laws.SchemaTable.{added-row, row-cells, length
 use Rattle.tables.proofs.schema.add_row.Statement.{statement}
 use Rattle.tables.proofs.schema.add_row.Tie as tie
 
-row-count-requires : tie.Need-row-count-requires
-row-count-requires c κs = search needs
-
-stored-path-requires : tie.Need-stored-path-requires
-stored-path-requires c κs = search needs
-
-mul-put9 : tie.Need-mul-put9
-mul-put9 c = search needs
-
-add-put9 : tie.Need-add-put9
-add-put9 c = search needs
-
-put9-requires : tie.Need-put9-requires
-put9-requires c κs = search needs
-
-add-schema : tie.Need-add-schema
-add-schema c = search needs
-
-slice-write-schema : tie.Need-slice-write-schema
-slice-write-schema c = search needs
-
-same-length : tie.Need-same-length
-same-length c = search needs
-
 returns : tie.Need-returns
 returns c =
     let a = c .before .before .before .before .before .before .before .before .args in
@@ -49,12 +25,12 @@ pub add-row-spec : {M : Type 1} → statement M
 add-row-spec =
     tie.close
     (tie.spec
-    row-count-requires
-    stored-path-requires
-    mul-put9
-    add-put9
-    put9-requires
-    add-schema
-    slice-write-schema
-    same-length
+    (λ c κs. search needs)
+    (λ c κs. search needs)
+    (λ c. search needs)
+    (λ c. search needs)
+    (λ c κs. search needs)
+    (λ c. search needs)
+    (λ c. search needs)
+    (λ c. search needs)
     returns)

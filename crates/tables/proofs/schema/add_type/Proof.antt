@@ -4,30 +4,6 @@ use Rattle.tables.proofs.Laws.SchemaTable.{added-type, type-cells}
 use Rattle.tables.proofs.schema.add_type.Statement.{statement}
 use Rattle.tables.proofs.schema.add_type.Tie as tie
 
-type-count-requires : tie.Need-type-count-requires
-type-count-requires c κs = search needs
-
-bool-cell-requires : tie.Need-bool-cell-requires
-bool-cell-requires c κs = search needs
-
-mul-put3 : tie.Need-mul-put3
-mul-put3 c = search needs
-
-add-put3 : tie.Need-add-put3
-add-put3 c = search needs
-
-put3-requires : tie.Need-put3-requires
-put3-requires c κs = search needs
-
-add-schema : tie.Need-add-schema
-add-schema c = search needs
-
-slice-write-schema : tie.Need-slice-write-schema
-slice-write-schema c = search needs
-
-same-length : tie.Need-same-length
-same-length c = search needs
-
 returns : tie.Need-returns
 returns c =
     let a = c .before .before .before .before .before .before .before .before .args in
@@ -38,12 +14,12 @@ pub add-type-spec : {M : Type 1} → statement M
 add-type-spec =
     tie.close
     (tie.spec
-    type-count-requires
-    bool-cell-requires
-    mul-put3
-    add-put3
-    put3-requires
-    add-schema
-    slice-write-schema
-    same-length
+    (λ c κs. search needs)
+    (λ c κs. search needs)
+    (λ c. search needs)
+    (λ c. search needs)
+    (λ c κs. search needs)
+    (λ c. search needs)
+    (λ c. search needs)
+    (λ c. search needs)
     returns)

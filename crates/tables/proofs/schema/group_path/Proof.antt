@@ -3,18 +3,6 @@ use Rattle.tables.proofs.Laws.SchemaTable.{group-path}
 use Rattle.tables.proofs.schema.group_path.Statement.{statement}
 use Rattle.tables.proofs.schema.group_path.Tie as tie
 
-group-cell-requires : tie.Need-group-cell-requires
-group-cell-requires c κs = search needs
-
-group-cell-requires-2 : tie.Need-group-cell-requires-2
-group-cell-requires-2 c κs = search needs
-
-group-cell-requires-3 : tie.Need-group-cell-requires-3
-group-cell-requires-3 c κs = search needs
-
-group-cell-requires-4 : tie.Need-group-cell-requires-4
-group-cell-requires-4 c κs = search needs
-
 returns : tie.Need-returns
 returns c =
     let a = c .before .before .before .before .before .args in
@@ -25,8 +13,8 @@ pub group-path-spec : {M : Type 1} → statement M
 group-path-spec =
     tie.close
     (tie.spec
-    group-cell-requires
-    group-cell-requires-2
-    group-cell-requires-3
-    group-cell-requires-4
+    (λ c κs. search needs)
+    (λ c κs. search needs)
+    (λ c κs. search needs)
+    (λ c κs. search needs)
     returns)

@@ -3,11 +3,8 @@ use Rattle.tables.proofs.Laws.SchemaTable.{named-is}
 use Rattle.tables.proofs.schema.type_named.Statement.{statement}
 use Rattle.tables.proofs.schema.type_named.Tie as tie
 
-type-cell-requires : tie.Need-type-cell-requires
-type-cell-requires c κs = search needs
-
 returns : tie.Need-returns
 returns c = let a = c .before .before .args in named-is (a .schema .now) (search needs) (a .t .0) _ (c .type-cell .ensures)
 
 pub type-named-spec : {M : Type 1} → statement M
-type-named-spec = tie.close (tie.spec type-cell-requires returns)
+type-named-spec = tie.close (tie.spec (λ c κs. search needs) returns)

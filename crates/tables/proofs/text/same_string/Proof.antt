@@ -11,12 +11,9 @@ returns c =
     let s = c .before .before .args in
     sym (sizes-differ (s .deck .now) (placeOf (s .p)) (placeOf (s .q)) (search needs) (search needs) (c .if1 .taken))
 
-same-bytes-requires : tie.Need-same-bytes-requires
-same-bytes-requires c κs = search needs
-
 returns-2 : tie.Need-returns-2
 unfolding bytesAt
 returns-2 c = rw (c .before .if1 .left) (c .same-bytes .ensures)
 
 pub same-string-spec : {M : Type 1} → statement M
-same-string-spec = tie.close (tie.spec returns same-bytes-requires returns-2)
+same-string-spec = tie.close (tie.spec returns (λ c κs. search needs) returns-2)

@@ -7,35 +7,8 @@ use Rattle.tables.proofs.Laws.Texts.{apart, other-kind}
 use Rattle.tables.proofs.text.same_text.Statement.{statement}
 use Rattle.tables.proofs.text.same_text.Tie as tie
 
-enum-known-a : tie.Need-enum-known-a
-enum-known-a c = search needs
-
-enum-known-b : tie.Need-enum-known-b
-enum-known-b c = search needs
-
-enum-known-a-2 : tie.Need-enum-known-a-2
-enum-known-a-2 c = search needs
-
-enum-known-b-2 : tie.Need-enum-known-b-2
-enum-known-b-2 c = search needs
-
 same-string-requires : tie.Need-same-string-requires
 same-string-requires c κs = (rw (c .before .before .before .before .a2 .given .1) at (c .before .before .before .before .before .before .before .pre .0), rw (c .before .b2 .given .1) at (c .before .before .before .before .before .before .before .pre .1))
-
-enum-known-a-3 : tie.Need-enum-known-a-3
-enum-known-a-3 c = search needs
-
-enum-known-b-3 : tie.Need-enum-known-b-3
-enum-known-b-3 c = search needs
-
-enum-known-a-4 : tie.Need-enum-known-a-4
-enum-known-a-4 c = search needs
-
-enum-known-b-4 : tie.Need-enum-known-b-4
-enum-known-b-4 c = search needs
-
-same-float-requires : tie.Need-same-float-requires
-same-float-requires c κs = search needs
 
 returns : tie.Need-returns
 unfolding sameValues
@@ -77,16 +50,16 @@ pub same-text-spec : {M : Type 1} → statement M
 same-text-spec =
     tie.close
     (tie.spec
-    enum-known-a
-    enum-known-b
-    enum-known-a-2
-    enum-known-b-2
+    (λ c. search needs)
+    (λ c. search needs)
+    (λ c. search needs)
+    (λ c. search needs)
     same-string-requires
-    enum-known-a-3
-    enum-known-b-3
-    enum-known-a-4
-    enum-known-b-4
-    same-float-requires
+    (λ c. search needs)
+    (λ c. search needs)
+    (λ c. search needs)
+    (λ c. search needs)
+    (λ c κs. search needs)
     returns
     returns-2
     returns-3

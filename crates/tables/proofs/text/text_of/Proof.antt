@@ -7,9 +7,6 @@ use Rattle.tables.specs.declared.text.Text.the-variants.{Float}
 use Rattle.tables.proofs.text.text_of.Statement.{statement}
 use Rattle.tables.proofs.text.text_of.Tie as tie
 
-float-of-requires : tie.Need-float-of-requires
-float-of-requires c κs = search needs
-
 returns : tie.Need-returns
 unfolding textFrom valueOf
 returns c = rw (c .match .keys1)
@@ -28,4 +25,4 @@ returns-4 c = let k = c .before .before .args .kind in
     rw (ne-eqb k 0 (search needs), ne-eqb k 1 (search needs), ne-eqb k 2 (search needs)) (ap Float (c .float-of .ensures))
 
 pub text-of-spec : {M : Type 1} → statement M
-text-of-spec = tie.close (tie.spec float-of-requires returns returns-2 returns-3 returns-4)
+text-of-spec = tie.close (tie.spec (λ c κs. search needs) returns returns-2 returns-3 returns-4)

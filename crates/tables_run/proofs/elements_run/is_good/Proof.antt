@@ -4,9 +4,6 @@ use borrow.Author.Needs.{needs}
 use Rattle.tables_run.proofs.elements_run.is_good.Statement.{statement}
 use Rattle.tables_run.proofs.elements_run.is_good.Tie as tie
 
-is-elements-table-requires : tie.Need-is-elements-table-requires
-is-elements-table-requires c κs = search needs
-
 returns : tie.Need-returns
 returns c = λ h. tested-elements 128 32768 (c .before .before .args .t .now) (sym (c .is-elements-table .ensures) ∙ h) .good
 
@@ -14,5 +11,5 @@ pub is-good-spec : {M : Type 1} → statement M
 is-good-spec =
     tie.close
     (tie.spec
-    is-elements-table-requires
+    (λ c κs. search needs)
     returns)

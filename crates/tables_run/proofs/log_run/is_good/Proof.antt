@@ -4,9 +4,6 @@ use borrow.Author.Needs.{needs}
 use Rattle.tables_run.proofs.log_run.is_good.Statement.{statement}
 use Rattle.tables_run.proofs.log_run.is_good.Tie as tie
 
-is-log-table-requires : tie.Need-is-log-table-requires
-is-log-table-requires c κs = search needs
-
 returns : tie.Need-returns
 returns c = λ h. tested-log 1024 (c .before .before .args .l .now) (search needs) (sym (c .is-log-table .ensures) ∙ h) .good
 
@@ -14,5 +11,5 @@ pub is-good-spec : {M : Type 1} → statement M
 is-good-spec =
     tie.close
     (tie.spec
-    is-log-table-requires
+    (λ c κs. search needs)
     returns)

@@ -4,11 +4,8 @@ use borrow.Author.Needs.{needs}
 use Rattle.tables_run.proofs.model_run.is_good.Statement.{statement}
 use Rattle.tables_run.proofs.model_run.is_good.Tie as tie
 
-is-model-table-requires : tie.Need-is-model-table-requires
-is-model-table-requires c κs = search needs
-
 returns : tie.Need-returns
 returns c = λ h. tested 2048 (c .before .before .args .m .now) (search needs) (sym (c .is-model-table .ensures) ∙ h) .good
 
 pub is-good-spec : {M : Type 1} → statement M
-is-good-spec = tie.close (tie.spec is-model-table-requires returns)
+is-good-spec = tie.close (tie.spec (λ c κs. search needs) returns)

@@ -4,9 +4,6 @@ use borrow.Author.Needs.{needs}
 use Rattle.tables_run.proofs.schema_run.is_good.Statement.{statement}
 use Rattle.tables_run.proofs.schema_run.is_good.Tie as tie
 
-is-schema-table-requires : tie.Need-is-schema-table-requires
-is-schema-table-requires c κs = search needs
-
 returns : tie.Need-returns
 returns c = λ h. tested-schema (c .before .before .args .t .now) (sym (c .is-schema-table .ensures) ∙ h) .good
 
@@ -14,5 +11,5 @@ pub is-good-spec : {M : Type 1} → statement M
 is-good-spec =
     tie.close
     (tie.spec
-    is-schema-table-requires
+    (λ c κs. search needs)
     returns)

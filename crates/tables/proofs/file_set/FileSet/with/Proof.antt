@@ -4,11 +4,8 @@ use Rattle.tables.proofs.Laws.FileSets.{or-withFile, one-shifted}
 use Rattle.tables.proofs.file_set.FileSet.with.Statement.{statement}
 use Rattle.tables.proofs.file_set.FileSet.with.Tie as tie
 
-shl-t5 : tie.Need-shl-t5
-shl-t5 c = search needs
-
 returns : tie.Need-returns
 returns c = rw (one-shifted (c .args .f .0) (search needs)) (or-withFile (c .args .self .0) (c .args .f .0))
 
 pub with-spec : {M : Type 1} → statement M
-with-spec = tie.close (tie.spec shl-t5 returns)
+with-spec = tie.close (tie.spec (λ c. search needs) returns)

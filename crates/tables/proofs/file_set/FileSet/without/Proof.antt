@@ -7,9 +7,6 @@ use Rattle.tables.proofs.Laws.FileSets.{xor-withoutFile, one-shifted, a
 use Rattle.tables.proofs.file_set.FileSet.without.Statement.{statement}
 use Rattle.tables.proofs.file_set.FileSet.without.Tie as tie
 
-shl-t7 : tie.Need-shl-t7
-shl-t7 c = search needs
-
 returns : tie.Need-returns
 returns c =
     let s = c .before .args .self .0 in
@@ -20,4 +17,4 @@ returns-2 : tie.Need-returns-2
 returns-2 c = sym (withoutFile-absent (c .before .args .self .0) (c .before .args .f .0) (absent-past 64 (c .before .args .self .0) (c .before .args .f .0) (search needs) (c .if1 .left)))
 
 pub without-spec : {M : Type 1} → statement M
-without-spec = tie.close (tie.spec shl-t7 returns returns-2)
+without-spec = tie.close (tie.spec (λ c. search needs) returns returns-2)

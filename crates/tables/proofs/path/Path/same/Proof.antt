@@ -6,18 +6,6 @@ use Rattle.tables.proofs.Laws.Paths.{isEqual, same-order}
 use Rattle.tables.proofs.path.Path.same.Statement.{statement}
 use Rattle.tables.proofs.path.Path.same.Tie as tie
 
-order-requires : tie.Need-order-requires
-order-requires c κs = search needs
-
-enum-told : tie.Need-enum-told
-enum-told c = search needs
-
-enum-told-2 : tie.Need-enum-told-2
-enum-told-2 c = search needs
-
-enum-told-3 : tie.Need-enum-told-3
-enum-told-3 c = search needs
-
 returns : tie.Need-returns
 unfolding isEqual
 returns c =
@@ -39,4 +27,4 @@ returns-3 c =
 pub same-spec : {M : Type 1} → statement M
 same-spec =
     tie.close
-    (tie.spec order-requires enum-told enum-told-2 enum-told-3 returns returns-2 returns-3)
+    (tie.spec (λ c κs. search needs) (λ c. search needs) (λ c. search needs) (λ c. search needs) returns returns-2 returns-3)

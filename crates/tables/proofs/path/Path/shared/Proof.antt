@@ -8,9 +8,6 @@ use Rattle.tables.proofs.Laws.Paths.{shared-none, shared-one, shared-tw
 use Rattle.tables.proofs.path.Path.shared.Statement.{statement}
 use Rattle.tables.proofs.path.Path.shared.Tie as tie
 
-shares-requires : tie.Need-shares-requires
-shares-requires c κs = search needs
-
 returns : tie.Need-returns
 returns c =
     let s = c .before .before .args in
@@ -20,9 +17,6 @@ returns c =
 one : (c : tie.Else1) → sharesPart (c .before .before .args .self .0) (c .before .before .args .self .1) (c .before .before .args .q .0) (c .before .before .args .q .1) ≡ true
 one c = sym (c .before .shares .ensures) ∙ not-false (c .before .shares .result) (c .if1 .left)
 
-shares-requires-2 : tie.Need-shares-requires-2
-shares-requires-2 c κs = search needs
-
 returns-2 : tie.Need-returns-2
 returns-2 c =
     let s = c .before .before .before .before in
@@ -31,9 +25,6 @@ returns-2 c =
 -- and the second ones
 two : (c : tie.Else2) → sharesPart (c .before .before .before .before .args .self .1) (c .before .before .before .before .args .self .2) (c .before .before .before .before .args .q .1) (c .before .before .before .before .args .q .2) ≡ true
 two c = sym (c .before .shares2 .ensures) ∙ not-false (c .before .shares2 .result) (c .if2 .left)
-
-shares-requires-3 : tie.Need-shares-requires-3
-shares-requires-3 c κs = search needs
 
 returns-3 : tie.Need-returns-3
 returns-3 c =
@@ -49,10 +40,10 @@ pub shared-spec : {M : Type 1} → statement M
 shared-spec =
     tie.close
     (tie.spec
-    shares-requires
+    (λ c κs. search needs)
     returns
-    shares-requires-2
+    (λ c κs. search needs)
     returns-2
-    shares-requires-3
+    (λ c κs. search needs)
     returns-3
     returns-4)
