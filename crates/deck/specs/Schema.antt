@@ -109,6 +109,10 @@ unfoldable pub findSubElement : Schema → TypeNumber → Name → Mask → Opti
 findSubElement sc t n m =
     firstOf (λ (r : SubElement). eqb (r .type) t && eqb (r .name) n && meets (r .mask) m) (sc .subElements)
 
+-- the row of a name in a type, whatever its mask
+unfoldable pub rowOfName : Schema → TypeNumber → Name → Option SubElement
+rowOfName sc t n = findSubElement sc t n allVersions
+
 -- The empty path is the type itself.
 unfoldable pub groupMode : Schema → TypeNumber → SchemaPath → Mode
 groupMode sc t [] = typeRow sc t .mode
