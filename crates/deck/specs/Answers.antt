@@ -3,14 +3,17 @@ use mathlib.Core.Bool.{true, false}
 use mathlib.Core.List.{List, [], _∷_, _++_}
 use mathlib.Core.Option.{Option, none, some}
 use mathlib.Core.Path.{_≡_}
-use Prim.Native.Nat.{ℕ, suc, _+_, _-_, _≤_, _<_}
+use Prim.Native.Nat.{ℕ, suc, _+_, _≤_, _<_}
 use lib.Dec.{eqb}
-use lib.ListN.{length, getD, take, drop}
+use lib.ListN.{length, getD, take}
+use Rattle.tables.specs.Cells.{between}
+use Rattle.tables.specs.Limits.{fileLimit, versionLimit, pathLimit}
 use Rattle.tables.specs.declared.path.Path.{Path}
 use Rattle.tables.specs.Paths.{cellsOf, partsOf, pathCells}
-use Rattle.tables.specs.Records.{SchemaPath, characters, any, TypeRow, Group, SubElement, File, Text}
+use Rattle.tables.specs.Records.{SchemaPath, modes, characters, mults, any, TypeRow, Group, SubElement, File, Text}
+use Rattle.tables.specs.SetCells.{setIs}
 use Rattle.tables.specs.Texts.{textFrom}
-use Rattle.deck.specs.Deck.{Part, Line, modes, mults}
+use Rattle.deck.specs.Deck.{Part, Line}
 use Rattle.deck.specs.declared.fields.Num.{Num}
 use Rattle.deck.specs.declared.fields.Num.the-variants.{Number, Bad as BadNumber}
 use Rattle.deck.specs.declared.fields.PathField.{PathField}
@@ -28,13 +31,9 @@ use Rattle.deck.specs.declared.lines.Line.the-variants.{T, G, S, F, M, B
 
 -- ---- places
 
--- the bytes from a place up to another
-abbrev pub between : List ℕ → ℕ → ℕ → List ℕ
-between s a e = take (e - a) (drop a s)
-
 -- the part of the deck between two places
 abbrev pub partAt : List ℕ → ℕ → ℕ → Part
-partAt deck a e = record { start = a; bytes = between deck a e }
+partAt deck a e = record { start = a; bytes = between a e deck }
 
 -- bytes by themselves, as a part that begins at 0
 abbrev pub whole : List ℕ → Part
@@ -49,7 +48,7 @@ reach separator (b ∷ bs) = elim (eqb b separator) [ true ↦ 0 | false ↦ suc
 pub record Next (s : List ℕ) (separator at end r : ℕ) : Type 0 where
   pub past : at ≤ r
   pub within : r ≤ end
-  pub is : r ≡ at + reach separator (between s at end)
+  pub is : r ≡ at + reach separator (between at end s)
 
 -- ---- the places of a line's fields
 
@@ -92,7 +91,7 @@ pathIs BadPath = none
 
 -- zeros stand behind the path's parts
 abbrev pub PathFits : Path → Type 0
-PathFits p = cellsOf p ≡ pathCells 4 (partsOf p)
+PathFits p = cellsOf p ≡ pathCells pathLimit (partsOf p)
 
 abbrev pub pathFits : PathField → Type 0
 pathFits (Parts p) = PathFits p
@@ -148,7 +147,7 @@ lineIs (S c) = some (Line.S (rowIs c))
 lineIs (F c) = some (Line.F (fileIs c))
 lineIs M = some Line.M
 lineIs (B f) = some (Line.B (f .0))
-lineIs (E c) = some (Line.E (c .depth) (c .name .0) (c .set .0))
+lineIs (E c) = some (Line.E (c .depth) (c .name .0) (setIs (c .set)))
 lineIs (C c) = some (Line.C (c .depth) (textFrom (c .kind) (c .value)))
 lineIs Bad = none
 
@@ -157,9 +156,9 @@ abbrev pub lineFits : program.Line → Type 0
 lineFits (T c) = (c .mode < 5) × (c .named < 2)
 lineFits (G c) = (c .mode < 4) × PathFits (c .path)
 lineFits (S c) = (c .mult < 3) × PathFits (c .path)
-lineFits (F c) = (c .file .0 < 64) × (c .version < 32)
+lineFits (F c) = (c .file .0 < fileLimit) × (c .version < versionLimit)
 lineFits M = Unit {0}
-lineFits (B f) = f .0 < 64
+lineFits (B f) = f .0 < fileLimit
 lineFits (E c) = Unit {0}
 lineFits (C c) = c .kind < 4
 lineFits Bad = Unit {0}

@@ -3,13 +3,13 @@
 use mathlib.Core.Bool.{Bool, true, false, _&&_}
 use mathlib.Core.List.{List, [], _∷_}
 use mathlib.Core.Option.{Option, none, some, bind as _>>=_}
-use Prim.Native.Nat.{ℕ, zero, suc, _+_, _-_, _*_, _^_}
+use Prim.Native.Nat.{ℕ, suc, _+_, _-_, _*_, _^_}
 use Prim.Native.Char.{code}
 use lib.Dec.{eqb, leb, ltb}
 use lib.ListN.{length, getD}
-use Rattle.tables.specs.Limits.{fileLimit, versionLimit}
+use Rattle.tables.specs.Limits.{pathLimit, fileLimit, versionLimit, nameLimit, enumLimit, partLimit}
 use Rattle.tables.specs.Lists.{allOf, firstOf}
-use Rattle.tables.specs.Records.{Name, TypeNumber, FileNumber, Mask, FileSet, SchemaPath, Mode, sequence, choice, bag, mixed, characters, Mult, atMostOne, one, any, TypeRow, Group, SubElement, File, Place, Text, enumNumber, string, wholeNumber, float}
+use Rattle.tables.specs.Records.{Name, TypeNumber, FileNumber, Mask, FileSet, SchemaPath, Mode, characters, modes, Mult, any, mults, TypeRow, Group, SubElement, File, Text, enumNumber, string, wholeNumber, float}
 
 -- ---- lines and fields
 
@@ -83,15 +83,18 @@ unfoldable pub hexadecimal : ℕ → Part → Option ℕ
 hexadecimal bits p = number 16 (2 ^ bits - 1) p
 
 -- Type and depth fields go to 65535.
+abbrev pub numberLimit : ℕ
+numberLimit = 65535
+
 unfoldable pub typeField : Part → Option TypeNumber
-typeField p = decimal 65535 p
+typeField p = decimal numberLimit p
 
 unfoldable pub depthField : Part → Option ℕ
-depthField p = decimal 65535 p
+depthField p = decimal numberLimit p
 
 -- name 0 to 4095
 unfoldable pub nameField : Part → Option Name
-nameField p = decimal 4095 p
+nameField p = decimal nameLimit p
 
 -- file 0 to 63
 unfoldable pub fileField : Part → Option FileNumber
@@ -105,16 +108,10 @@ unfoldable pub maskField : Part → Option Mask
 maskField p = hexadecimal versionLimit p
 
 -- Mode: 0 sequence, 1 choice, 2 bag, 3 mixed, 4 characters.
-abbrev pub modes : List Mode
-modes = sequence ∷ choice ∷ bag ∷ mixed ∷ characters ∷ []
-
 unfoldable pub modeField : ℕ → Part → Option Mode
 modeField most p = do n ← decimal most p; some (getD modes n characters)
 
 -- mult 0 (at most one), 1 (one) or 2 (any)
-abbrev pub mults : List Mult
-mults = atMostOne ∷ one ∷ any ∷ []
-
 unfoldable pub multField : Part → Option Mult
 multField p = do n ← decimal 2 p; some (getD mults n any)
 
@@ -125,7 +122,7 @@ namedField p = do n ← decimal 1 p; some (eqb n 1)
 -- parts (0 to 255)
 unfoldable pub pathParts : List Part → Option SchemaPath
 pathParts [] = some []
-pathParts (p ∷ ps) = do n ← decimal 255 p; ns ← pathParts ps; some (n ∷ ns)
+pathParts (p ∷ ps) = do n ← decimal partLimit p; ns ← pathParts ps; some (n ∷ ns)
 
 -- path of 1 to so many parts, parted by dots
 unfoldable pub pathField : ℕ → Part → Option SchemaPath
@@ -145,7 +142,7 @@ byLetter table k a = elim (firstOf (λ r. eqb (r .0) k) table) [ none ↦ none |
 
 -- an enum number (`e`, 0 to 65535),
 unfoldable pub textE : Part → Option Text
-textE p = do n ← decimal 65535 p; some (enumNumber n)
+textE p = do n ← decimal enumLimit p; some (enumNumber n)
 
 -- a string (`s`, may be empty),
 unfoldable pub textS : Part → Option Text
@@ -194,7 +191,7 @@ lineT l = do
 unfoldable pub lineG : List Part → Option Line
 lineG l = do
   type ← typeField (field l 1)
-  path ← pathField 3 (field l 2)
+  path ← pathField (pathLimit - 1) (field l 2)
   mode ← modeField 3 (field l 3)
   only (eqb (length l) 4) (G (record { type = type; path = path; mode = mode }))
 
@@ -202,7 +199,7 @@ lineG l = do
 unfoldable pub lineS : List Part → Option Line
 lineS l = do
   type ← typeField (field l 1)
-  path ← pathField 4 (field l 2)
+  path ← pathField pathLimit (field l 2)
   name ← nameField (field l 3)
   childType ← typeField (field l 4)
   mult ← multField (field l 5)

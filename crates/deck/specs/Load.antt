@@ -1,16 +1,16 @@
 -- Document 01, "Deck and schema": tree rules; "What each operation refuses": load. Assumes nothing.
 use mathlib.Core.Bool.{Bool, true, false, not, _&&_, _||_}
-use mathlib.Core.List.{List, [], _∷_, _++_, map}
+use mathlib.Core.List.{List, [], _∷_, _++_}
 use mathlib.Core.Option.{Option, none, some}
-use Prim.Native.Nat.{ℕ, zero, suc, _+_}
+use Prim.Native.Nat.{ℕ, zero, suc}
 use lib.Dec.{eqb, leb, ltb}
 use lib.ListN.{length, take, getD, getElem?}
 use Rattle.tables.specs.FileSets.{noSet, holds, partOf, loadedFiles}
 use Rattle.tables.specs.Limits.{deckLimit, typeLimit, rowLimit, groupLimit, elementLimit, depthLimit, itemLimit}
-use Rattle.tables.specs.Lists.{allOf, anyOf, sum}
+use Rattle.tables.specs.Lists.{allOf, anyOf}
 use Rattle.tables.specs.Records.{Element, Name, TypeNumber, FileNumber, FileSet, Mode, sequence, choice, bag, mixed, characters, TypeRow, Group, SubElement, File, Schema, Text, Tree, Elements, Item, child, text, Model, Fixed, State, root, typeRow, listOf, addType, addGroup, addSubElement, addFile, addElement, addText, addTree, addToModel, insertItem, contentItems}
 use Rattle.deck.specs.Deck.{Part, lines, Line, T, G, S, F, M, B, E, C, readLine}
-use Rattle.deck.specs.Schema.{declaredType, groupRule, subElementRule, declaresFile, declaredFiles, findSubElement, allVersions}
+use Rattle.deck.specs.Schema.{declaredType, groupRule, subElementRule, declaresFile, declaredFiles, rowOfName}
 
 -- ---- the first refusal that applies
 
@@ -222,7 +222,7 @@ loadRoot l d n s = do
 unfoldable pub loadChild : Loading → ℕ → Name → FileSet → Res Loading
 loadChild l d n s = do
   p ← given treeRule (owner l d)
-  row ← given treeRule (findSubElement (l .schema) (getD (l .elements .types) p 0) n allVersions)
+  row ← given treeRule (rowOfName (l .schema) (getD (l .elements .types) p 0) n)
   _ ← need treeRule (setRule l s)
   let e = nextElement l
   let es = addElement (l .elements) n (row .childType) d

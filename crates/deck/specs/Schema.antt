@@ -2,15 +2,15 @@
 use mathlib.Core.Bool.{Bool, true, false, not, _&&_}
 use mathlib.Core.List.{List, [], _∷_, map, dropLast}
 use mathlib.Core.Option.{Option, none, some}
-use Prim.Native.Nat.{ℕ, zero, suc, _-_, _/_, _%_, _^_, min}
+use Prim.Native.Nat.{_-_, _/_, _%_, _^_, min}
 use lib.Bits.{bitAnd}
 use lib.Dec.{eqb, ltb}
 use lib.ListN.{length}
-use Rattle.tables.specs.FileSets.{holds, withFile}
+use Rattle.tables.specs.FileSets.{noSet, holds, withFile}
 use Rattle.tables.specs.Limits.{versionLimit}
 use Rattle.tables.specs.Lists.{anyOf, allOf, firstOf}
 use Rattle.tables.specs.Paths.{begins, samePath, sharedBeginning}
-use Rattle.tables.specs.Records.{Name, TypeNumber, FileNumber, Version, Mask, FileSet, SchemaPath, Mode, sequence, choice, bag, mixed, characters, TypeRow, Group, SubElement, File, Schema, typeRow}
+use Rattle.tables.specs.Records.{Name, TypeNumber, FileNumber, Version, Mask, FileSet, SchemaPath, Mode, sequence, choice, bag, mixed, characters, Group, SubElement, File, Schema, typeRow}
 
 -- ---- paths
 
@@ -39,13 +39,13 @@ unfoldable pub hasGroup : Schema → TypeNumber → SchemaPath → Bool
 hasGroup sc t p = elim (groupAt sc t p) [ none ↦ false | some g ↦ true ]
 
 -- types used are declared; mode 4 types have no rows; every proper non-empty beginning of a path has a G row above it
-unfoldable pub rowMayStand : Schema → TypeNumber → SchemaPath → Bool
-rowMayStand sc t p =
+unfoldable pub pathValid : Schema → TypeNumber → SchemaPath → Bool
+pathValid sc t p =
     declaredType sc t && not (isCharacters (typeRow sc t .mode)) && allOf (hasGroup sc t) (properBeginnings p)
 
 -- no G path stands twice
 unfoldable pub groupRule : Schema → Group → Bool
-groupRule sc g = rowMayStand sc (g .type) (g .path) && not (hasGroup sc (g .type) (g .path))
+groupRule sc g = pathValid sc (g .type) (g .path) && not (hasGroup sc (g .type) (g .path))
 
 -- a name stands once in a type; no S path equals or begins another S
 unfoldable pub rowsMeet : SubElement → SubElement → Bool
@@ -65,7 +65,7 @@ beginsGroup r g = eqb (g .type) (r .type) && begins (r .path) (g .path)
 
 unfoldable pub subElementRule : Schema → SubElement → Bool
 subElementRule sc r =
-    rowMayStand sc (r .type) (r .path) && declaredType sc (r .childType) && not (anyOf (rowsMeet r) (sc .subElements))
+    pathValid sc (r .type) (r .path) && declaredType sc (r .childType) && not (anyOf (rowsMeet r) (sc .subElements))
     && not (anyOf (beginsGroup r) (sc .groups))
 
 -- ---- files and versions
@@ -75,7 +75,7 @@ declaresFile sc f = anyOf (λ (d : File). eqb (d .file) f) (sc .files)
 
 -- the set of the files in a list
 unfoldable pub filesOf : List File → FileSet
-filesOf [] = 0
+filesOf [] = noSet
 filesOf (d ∷ ds) = withFile (filesOf ds) (d .file)
 
 unfoldable pub declaredFiles : Schema → FileSet

@@ -5,11 +5,17 @@ ghost use Prim.Native.Nat.{_≤_, _<_, _^_};
 ghost use lib.ListN.{length};
 ghost use Rattle.deck.specs.Deck.{digit, plain, number, pathField, printable, byLetter, texts, textS};
 ghost use Rattle.deck.specs.Answers.{whole, partAt, Next, numIs, PathReads, PathPut, TextReads};
-ghost use Rattle.tables.specs.Limits.{deckLimit};
+ghost use Rattle.tables.specs.Limits.{deckLimit, pathLimit};
 ghost use Rattle.tables.specs.Lists.{allOf};
 ghost use Rattle.tables.specs.Paths.{partsOf};
 ghost use Rattle.tables.specs.Texts.{textFrom};
+use tables::limits::ENUM_LIMIT;
+use tables::limits::PART_LIMIT;
+use tables::limits::STRING_LIMIT;
 use tables::path::Path;
+
+// The largest number of 64 bits.
+pub const WORD_LIMIT: u64 = 0xffff_ffff_ffff_ffff;
 
 pub enum Num {
     Number(u64),
@@ -107,7 +113,7 @@ pub enum PathField {
 
 // The path with one more part behind its n parts.
 fn with_part(p: Path, n: usize, v: u64) -> Path
-    requires { ⌜ (length (partsOf p) ≡ n) × (n < 4) × (v < 2 ^ 32) ⌝ }
+    requires { ⌜ (length (partsOf p) ≡ n) × (n < pathLimit) × (v < 2 ^ 32) ⌝ }
     ensures { λ r. ⌜ PathPut p v r ⌝ }
 {
     match n {
@@ -120,7 +126,7 @@ fn with_part(p: Path, n: usize, v: u64) -> Path
 
 // The path of a field: 1 to so many parts, parted by dots.
 pub fn path_field(deck: &[u8], start: usize, end: usize, most: usize) -> PathField
-    requires { ⌜ (start ≤ end) × (end ≤ length (now deck)) × (most ≤ 4) ⌝ }
+    requires { ⌜ (start ≤ end) × (end ≤ length (now deck)) × (most ≤ pathLimit) ⌝ }
     ensures { λ r. ⌜ PathReads r (pathField most (partAt (now (deck .entry)) start end)) ⌝ }
 {
     let mut p = Path(0, 0, 0, 0);
@@ -128,7 +134,7 @@ pub fn path_field(deck: &[u8], start: usize, end: usize, most: usize) -> PathFie
     let mut at = start;
     while n < most {
         let e = find_byte(deck, 46, at, end);
-        let Num::Number(v) = number(&deck[at..e], 10, 255) else {
+        let Num::Number(v) = number(&deck[at..e], 10, PART_LIMIT) else {
             return PathField::Bad;
         };
         p = with_part(p, n, v);
@@ -159,7 +165,7 @@ fn all_printable(s: &[u8]) -> bool
     true
 }
 
-// Kind and value: 0 an enum number, 1 a string (its place * 65536 + its length), 2 a whole number, 3 a float's bits.
+// Kind and value: 0 an enum number, 1 a string (its place * STRING_LIMIT + its length), 2 a whole number, 3 a float's bits.
 pub enum TextField {
     Text(u64, u64),
     Bad,
@@ -183,8 +189,8 @@ fn string_text(deck: &[u8], start: usize, end: usize) -> TextField
     if !all_printable(&deck[start..end]) {
         return TextField::Bad;
     }
-    let value = start * 65536 + (end - start);
-    TextField::Text(1, value as u64)
+    let size = end - start;
+    TextField::Text(1, start as u64 * STRING_LIMIT + size as u64)
 }
 
 // The text of a value field, by the letter of its kind.
@@ -193,10 +199,10 @@ pub fn text_field(deck: &[u8], letter: u64, start: usize, end: usize) -> TextFie
     ensures { λ r. ⌜ TextReads r (byLetter texts letter (partAt (now (deck .entry)) start end)) ⌝ }
 {
     match letter {
-        101 => number_text(0, number(&deck[start..end], 10, 65535)),
+        101 => number_text(0, number(&deck[start..end], 10, ENUM_LIMIT)),
         115 => string_text(deck, start, end),
-        117 => number_text(2, number(&deck[start..end], 10, 0xffff_ffff_ffff_ffff)),
-        102 => number_text(3, number(&deck[start..end], 16, 0xffff_ffff_ffff_ffff)),
+        117 => number_text(2, number(&deck[start..end], 10, WORD_LIMIT)),
+        102 => number_text(3, number(&deck[start..end], 16, WORD_LIMIT)),
         _ => TextField::Bad,
     }
 }

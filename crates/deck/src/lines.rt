@@ -3,22 +3,42 @@ ghost use mathlib.Core.Path.{_≡_};
 ghost use Prim.Native.Nat.{ℕ, _≤_, _<_};
 ghost use mathlib.Core.List.{List};
 ghost use lib.ListN.{length};
-ghost use Rattle.tables.specs.Limits.{deckLimit};
+ghost use Rattle.tables.specs.Limits.{deckLimit, pathLimit};
 ghost use Rattle.deck.specs.Deck.{fields, field, number, letter, pathField, textFields, byLetter, kinds, readLine, lineT, lineG, lineS, lineF, lineM, lineB, lineE, lineC};
 ghost use Rattle.deck.specs.Answers.{Next, partAt, fieldsOf, Placed, Splits, SpanOf, numIs, PathReads, TextReads, LineReads};
 use crate::fields::Num;
 use crate::fields::PathField;
 use crate::fields::TextField;
+use crate::fields::WORD_LIMIT;
 use crate::fields::find_byte;
 use crate::fields::number;
 use crate::fields::path_field;
 use crate::fields::text_field;
 use crate::fields::wide;
 use tables::file_set::FileSet;
+use tables::limits::FILE_LIMIT;
+use tables::limits::MASK_LIMIT;
+use tables::limits::NAME_LIMIT;
+use tables::limits::PATH_LIMIT;
+use tables::limits::VERSION_LIMIT;
 use tables::numbers::FileNumber;
 use tables::numbers::Name;
 use tables::numbers::TypeNumber;
 use tables::path::Path;
+
+// The largest number of a type or depth field.
+const NUMBER_LIMIT: u64 = 65535;
+
+// The largest mask: every version.
+pub const ALL_VERSIONS: u64 = MASK_LIMIT - 1;
+
+// The largest file and the largest version.
+const LAST_FILE: u64 = FILE_LIMIT - 1;
+
+const LAST_VERSION: u64 = VERSION_LIMIT - 1;
+
+// A group's path leaves room for a part of a row.
+const GROUP_PATH_LIMIT: usize = PATH_LIMIT - 1;
 
 // The first LF at or behind this place, or the deck's length.
 pub fn line_end(deck: &[u8], at: usize) -> usize
@@ -113,7 +133,7 @@ fn letter_at(deck: &[u8], f: Fields, i: usize) -> Num
 
 // Field i as a path.
 fn path_at(deck: &[u8], f: Fields, i: usize, most: usize) -> PathField
-    requires { ⌜ Placed (now deck) f × (most ≤ 4) ⌝ }
+    requires { ⌜ Placed (now deck) f × (most ≤ pathLimit) ⌝ }
     ensures { λ r. ⌜ PathReads r (pathField most (field (fieldsOf (now (deck .entry)) f) i)) ⌝ }
 {
     let p = places(f, i);
@@ -198,7 +218,7 @@ fn line_t(deck: &[u8], f: Fields) -> Line
     requires { ⌜ Placed (now deck) f ⌝ }
     ensures { λ r. ⌜ LineReads r (lineT (fieldsOf (now (deck .entry)) f)) ⌝ }
 {
-    let Num::Number(ty) = number_at(deck, f, 1, 10, 65535) else {
+    let Num::Number(ty) = number_at(deck, f, 1, 10, NUMBER_LIMIT) else {
         return Line::Bad;
     };
     let Num::Number(mode) = number_at(deck, f, 2, 10, 4) else {
@@ -207,7 +227,7 @@ fn line_t(deck: &[u8], f: Fields) -> Line
     let Num::Number(named) = number_at(deck, f, 3, 10, 1) else {
         return Line::Bad;
     };
-    let Num::Number(split) = number_at(deck, f, 4, 16, 0xffff_ffff) else {
+    let Num::Number(split) = number_at(deck, f, 4, 16, ALL_VERSIONS) else {
         return Line::Bad;
     };
     if f.count != 5 {
@@ -226,10 +246,10 @@ fn line_g(deck: &[u8], f: Fields) -> Line
     requires { ⌜ Placed (now deck) f ⌝ }
     ensures { λ r. ⌜ LineReads r (lineG (fieldsOf (now (deck .entry)) f)) ⌝ }
 {
-    let Num::Number(ty) = number_at(deck, f, 1, 10, 65535) else {
+    let Num::Number(ty) = number_at(deck, f, 1, 10, NUMBER_LIMIT) else {
         return Line::Bad;
     };
-    let PathField::Parts(path) = path_at(deck, f, 2, 3) else {
+    let PathField::Parts(path) = path_at(deck, f, 2, GROUP_PATH_LIMIT) else {
         return Line::Bad;
     };
     let Num::Number(mode) = number_at(deck, f, 3, 10, 3) else {
@@ -250,22 +270,22 @@ fn line_s(deck: &[u8], f: Fields) -> Line
     requires { ⌜ Placed (now deck) f ⌝ }
     ensures { λ r. ⌜ LineReads r (lineS (fieldsOf (now (deck .entry)) f)) ⌝ }
 {
-    let Num::Number(ty) = number_at(deck, f, 1, 10, 65535) else {
+    let Num::Number(ty) = number_at(deck, f, 1, 10, NUMBER_LIMIT) else {
         return Line::Bad;
     };
-    let PathField::Parts(path) = path_at(deck, f, 2, 4) else {
+    let PathField::Parts(path) = path_at(deck, f, 2, PATH_LIMIT) else {
         return Line::Bad;
     };
-    let Num::Number(name) = number_at(deck, f, 3, 10, 4095) else {
+    let Num::Number(name) = number_at(deck, f, 3, 10, NAME_LIMIT) else {
         return Line::Bad;
     };
-    let Num::Number(child) = number_at(deck, f, 4, 10, 65535) else {
+    let Num::Number(child) = number_at(deck, f, 4, 10, NUMBER_LIMIT) else {
         return Line::Bad;
     };
     let Num::Number(mult) = number_at(deck, f, 5, 10, 2) else {
         return Line::Bad;
     };
-    let Num::Number(mask) = number_at(deck, f, 6, 16, 0xffff_ffff) else {
+    let Num::Number(mask) = number_at(deck, f, 6, 16, ALL_VERSIONS) else {
         return Line::Bad;
     };
     if f.count != 7 {
@@ -289,10 +309,10 @@ fn line_f(deck: &[u8], f: Fields) -> Line
     requires { ⌜ Placed (now deck) f ⌝ }
     ensures { λ r. ⌜ LineReads r (lineF (fieldsOf (now (deck .entry)) f)) ⌝ }
 {
-    let Num::Number(file) = number_at(deck, f, 1, 10, 63) else {
+    let Num::Number(file) = number_at(deck, f, 1, 10, LAST_FILE) else {
         return Line::Bad;
     };
-    let Num::Number(version) = number_at(deck, f, 2, 10, 31) else {
+    let Num::Number(version) = number_at(deck, f, 2, 10, LAST_VERSION) else {
         return Line::Bad;
     };
     if f.count != 3 {
@@ -319,7 +339,7 @@ fn line_b(deck: &[u8], f: Fields) -> Line
     requires { ⌜ Placed (now deck) f ⌝ }
     ensures { λ r. ⌜ LineReads r (lineB (fieldsOf (now (deck .entry)) f)) ⌝ }
 {
-    let Num::Number(file) = number_at(deck, f, 1, 10, 63) else {
+    let Num::Number(file) = number_at(deck, f, 1, 10, LAST_FILE) else {
         return Line::Bad;
     };
     if f.count != 2 {
@@ -333,13 +353,13 @@ fn line_e(deck: &[u8], f: Fields) -> Line
     requires { ⌜ Placed (now deck) f ⌝ }
     ensures { λ r. ⌜ LineReads r (lineE (fieldsOf (now (deck .entry)) f)) ⌝ }
 {
-    let Num::Number(depth) = number_at(deck, f, 1, 10, 65535) else {
+    let Num::Number(depth) = number_at(deck, f, 1, 10, NUMBER_LIMIT) else {
         return Line::Bad;
     };
-    let Num::Number(name) = number_at(deck, f, 2, 10, 4095) else {
+    let Num::Number(name) = number_at(deck, f, 2, 10, NAME_LIMIT) else {
         return Line::Bad;
     };
-    let Num::Number(set) = number_at(deck, f, 3, 16, 0xffff_ffff_ffff_ffff) else {
+    let Num::Number(set) = number_at(deck, f, 3, 16, WORD_LIMIT) else {
         return Line::Bad;
     };
     if f.count != 4 {
@@ -348,7 +368,7 @@ fn line_e(deck: &[u8], f: Fields) -> Line
     Line::E(ElementCells {
         depth,
         name: Name(name),
-        set: FileSet(set),
+        set: FileSet::from_bits(set),
     })
 }
 
@@ -357,7 +377,7 @@ fn line_c(deck: &[u8], f: Fields) -> Line
     requires { ⌜ Placed (now deck) f × (length (now deck) ≤ deckLimit) ⌝ }
     ensures { λ r. ⌜ LineReads r (lineC (fieldsOf (now (deck .entry)) f)) ⌝ }
 {
-    let Num::Number(depth) = number_at(deck, f, 1, 10, 65535) else {
+    let Num::Number(depth) = number_at(deck, f, 1, 10, NUMBER_LIMIT) else {
         return Line::Bad;
     };
     let TextField::Text(kind, value) = text_at(deck, f) else {

@@ -1,13 +1,13 @@
 -- What the program and the tables hold of the lines so far. Assumes nothing.
 use mathlib.Core.Bool.{true, false}
-use mathlib.Core.List.{List, [], _∷_}
+use mathlib.Core.List.{List}
 use mathlib.Core.Option.{Option}
 use mathlib.Core.Path.{_≡_}
 use Prim.Native.Nat.{ℕ, zero, suc, _≤_, _<_}
 use lib.Dec.{eqb}
 use lib.ListN.{length, take}
 use Rattle.tables.specs.Cells.{Each}
-use Rattle.tables.specs.Limits.{fileLimit}
+use Rattle.tables.specs.Limits.{fileLimit, depthLimit}
 use Rattle.tables.specs.Lists.{anyOf}
 use Rattle.tables.specs.Records.{Element, TypeNumber, SubElement, File, Tree, contentItems}
 use Rattle.tables.specs.ElementsTable.{elementsOf, GoodElements}
@@ -22,7 +22,7 @@ use Rattle.load.specs.declared.progress.Step.{Step}
 
 -- the largest number of open elements: one of each depth
 abbrev pub openLimit : ℕ
-openLimit = 32
+openLimit = suc depthLimit
 
 -- the lines so far
 abbrev pub loadingOf : Progress → List ℕ → List ℕ → List ℕ → Loading
@@ -61,16 +61,16 @@ pub record GoodLoading (p : Progress) (schema elements model : List ℕ) : Type 
   pub goodModel : GoodModel model
   pub fits : LoadingFits (loadingOf p schema elements model)
 
--- what a line leads to; none where its form is wrong
-abbrev pub lineLeads : Loading → Option Line → Res Loading
-lineLeads l line = given form line >>= loadLine l
+-- what a line gives; none where its form is wrong
+abbrev pub lineResult : Loading → Option Line → Res Loading
+lineResult l line = given form line >>= loadLine l
 
--- a line's answer as the rules have it
+-- a line's answer as the rules have it; of the tables after a refusal it says nothing: the call clears all tables then
 unfoldable pub verdictIs : Verdict → Loading → Res Loading
 verdictIs Taken l = ok l
 verdictIs (Refused n) l = refused n
 
--- s, with the tables, is what a line leads to
-pub record Steps (s : Step) (schema elements model : List ℕ) (o : Res Loading) : Type 0 where
+-- s, with the tables, is what a line gives
+pub record StepResult (s : Step) (schema elements model : List ℕ) (o : Res Loading) : Type 0 where
   pub is : verdictIs (s .verdict) (loadingOf (s .progress) schema elements model) ≡ o
   pub good : GoodLoading (s .progress) schema elements model

@@ -71,7 +71,7 @@ loadCall deck t =
 
 -- ---- what the reading of the lines answers
 
--- an answer, with the tables, as the rules have it
+-- an answer, with the tables, as the rules have it; of the tables after a refusal it says nothing: the call clears all tables then
 unfoldable pub answerIs : Answer → List ℕ → List ℕ → List ℕ → List ℕ → Load
 answerIs Loaded deck schema elements model =
     loaded (record { deck = deck; schema = schemaOf schema; elements = elementsOf elements }) (record { model = modelOf model; log = [] })

@@ -1,5 +1,5 @@
 // Load: the lines of a deck, stored in the lent tables.
 pub mod load;
-pub mod progress;
-pub mod schema_lines;
-pub mod tree_lines;
+mod progress;
+mod schema_lines;
+mod tree_lines;

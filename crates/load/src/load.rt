@@ -1,6 +1,7 @@
 // Load: the lines in order, and the call on lent tables.
 use crate::progress::FORM;
 use crate::progress::LIMIT;
+use crate::progress::OPEN_LIMIT;
 use crate::progress::Progress;
 use crate::progress::Step;
 use crate::progress::TREE_RULE;
@@ -18,11 +19,12 @@ use deck::lines::Line;
 use deck::lines::line_end;
 use deck::lines::read_line;
 use tables::elements::ELEMENTS_SIZE;
+use tables::limits::DECK_LIMIT;
 use tables::log::LOG_SIZE;
 use tables::model::MODEL_SIZE;
 use tables::model::clear;
 use tables::schema::SCHEMA_SIZE;
-ghost use mathlib.Core.Bool.{true, false};
+ghost use mathlib.Core.Bool.{false};
 ghost use mathlib.Core.Path.{_≡_};
 ghost use mathlib.Core.List.{List, []};
 ghost use Prim.Native.Nat.{ℕ, _<_, _≤_};
@@ -34,15 +36,13 @@ ghost use Rattle.tables.specs.ModelTable.{HoldsModel};
 ghost use Rattle.tables.specs.SchemaTable.{HoldsSchema};
 ghost use Rattle.deck.specs.Answers.{lineIs, lineFits};
 ghost use Rattle.deck.specs.Load.{nothing, finish, load};
-ghost use Rattle.load.specs.Lines.{loadingOf, lineLeads, GoodLoading, Steps};
+ghost use Rattle.load.specs.Lines.{openLimit, loadingOf, lineResult, GoodLoading, StepResult};
 ghost use Rattle.load.specs.LoadCall.{tablesOf, loadResult, loadInto, loadCall, sizesFit, zeros, answerIs, Loads};
 
 pub enum Answer {
     Loaded,
     Refused(u64, u64),
 }
-
-const DECK_LIMIT: usize = 32768;
 
 // A line that was read, stored in the tables.
 fn load_line(
@@ -54,7 +54,7 @@ fn load_line(
 ) -> Step
     requires { ⌜ GoodLoading p (now schema) (now elements) (now model) ⌝ }
     requires { ⌜ lineFits line ⌝ }
-    ensures { λ r. ⌜ Steps r (now (schema .exit)) (now (elements .exit)) (now (model .exit)) (lineLeads (loadingOf p (now (schema .entry)) (now (elements .entry)) (now (model .entry))) (lineIs line)) ⌝ }
+    ensures { λ r. ⌜ StepResult r (now (schema .exit)) (now (elements .exit)) (now (model .exit)) (lineResult (loadingOf p (now (schema .entry)) (now (elements .entry)) (now (model .entry))) (lineIs line)) ⌝ }
 {
     match line {
         Line::T(c) => load_t(schema, p, c),
@@ -71,9 +71,9 @@ fn load_line(
 
 // Before the first line.
 fn start() -> Progress
-    ensures { λ r. ⌜ r ≡ record { latest = 0; seen = false; due = false; depth = 0; above = replicate 32 0 } ⌝ }
+    ensures { λ r. ⌜ r ≡ record { latest = 0; seen = false; due = false; depth = 0; above = replicate openLimit 0 } ⌝ }
 {
-    let above = [0usize; 32];
+    let above = [0usize; OPEN_LIMIT];
     Progress {
         latest: 0,
         seen: false,

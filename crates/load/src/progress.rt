@@ -1,15 +1,19 @@
 // What is known of the lines so far, beside the tables.
+use tables::limits::DEPTH_LIMIT;
 ghost use mathlib.Core.Path.{_≡_};
 ghost use Rattle.load.specs.declared.progress.Verdict.the-variants.{Taken, Refused};
 
-// latest: the latest kind's number; seen: an M line stands; due: the latest M or B has no root yet; depth: how many elements are open; above: the
+// The largest number of open elements: one of each depth.
+pub const OPEN_LIMIT: usize = DEPTH_LIMIT as usize + 1;
+
+// latest: the latest kind's number; seen: there is an M line; due: the latest M or B has no root yet; depth: how many elements are open; above: the
 // open element of each depth.
 pub struct Progress {
     pub latest: u64,
     pub seen: bool,
     pub due: bool,
     pub depth: usize,
-    pub above: [usize; 32],
+    pub above: [usize; OPEN_LIMIT],
 }
 
 pub enum Verdict {

@@ -16,6 +16,9 @@ use deck::lines::RowCells;
 use deck::lines::TypeCells;
 use schema_calls::rules::group_rule;
 use schema_calls::rules::sub_element_rule;
+use tables::limits::GROUP_LIMIT;
+use tables::limits::ROW_LIMIT;
+use tables::limits::TYPE_LIMIT;
 use tables::numbers::FileNumber;
 use tables::schema::add_file;
 use tables::schema::add_group;
@@ -31,19 +34,13 @@ ghost use mathlib.Core.List.{List};
 ghost use Prim.Native.Nat.{ℕ, _<_};
 ghost use lib.Dec.{ltb};
 ghost use lib.ListN.{length};
-ghost use Rattle.tables.specs.Limits.{fileLimit};
+ghost use Rattle.tables.specs.Limits.{fileLimit, versionLimit};
 ghost use Rattle.tables.specs.Lists.{allOf};
 ghost use Rattle.tables.specs.Records.{File};
 ghost use Rattle.tables.specs.SchemaTable.{schemaOf, GoodSchema};
 ghost use Rattle.deck.specs.Answers.{typeIs, groupIs, rowIs, fileIs, PathFits};
 ghost use Rattle.deck.specs.Load.{loadT, loadG, loadS, loadF};
-ghost use Rattle.load.specs.Lines.{loadingOf, taken, GoodLoading, Steps};
-
-const TYPE_LIMIT: usize = 128;
-
-const GROUP_LIMIT: usize = 128;
-
-const ROW_LIMIT: usize = 512;
+ghost use Rattle.load.specs.Lines.{loadingOf, taken, GoodLoading, StepResult};
 
 // After a line of this kind.
 fn after(p: Progress, kind: u64) -> Progress
@@ -63,7 +60,7 @@ fn after(p: Progress, kind: u64) -> Progress
 pub fn load_t(schema: &mut [u64], p: Progress, c: TypeCells) -> Step
     requires { ⌜ GoodSchema (now schema) ⌝ }
     requires { ⌜ (c .mode < 5) × (c .named < 2) ⌝ }
-    ensures { λ r. ⌜ ((elements model : List ℕ) → GoodLoading p (now (schema .entry)) elements model → Steps r (now (schema .exit)) elements model (loadT (loadingOf p (now (schema .entry)) elements model) (c .ty .0) (typeIs c))) ⌝ }
+    ensures { λ r. ⌜ ((elements model : List ℕ) → GoodLoading p (now (schema .entry)) elements model → StepResult r (now (schema .exit)) elements model (loadT (loadingOf p (now (schema .entry)) elements model) (c .ty .0) (typeIs c))) ⌝ }
 {
     let t = c.ty;
     if KIND_T < p.latest {
@@ -83,7 +80,7 @@ pub fn load_t(schema: &mut [u64], p: Progress, c: TypeCells) -> Step
 pub fn load_g(schema: &mut [u64], p: Progress, c: GroupCells) -> Step
     requires { ⌜ GoodSchema (now schema) ⌝ }
     requires { ⌜ (c .mode < 4) × PathFits (c .path) ⌝ }
-    ensures { λ r. ⌜ ((elements model : List ℕ) → GoodLoading p (now (schema .entry)) elements model → Steps r (now (schema .exit)) elements model (loadG (loadingOf p (now (schema .entry)) elements model) (groupIs c))) ⌝ }
+    ensures { λ r. ⌜ ((elements model : List ℕ) → GoodLoading p (now (schema .entry)) elements model → StepResult r (now (schema .exit)) elements model (loadG (loadingOf p (now (schema .entry)) elements model) (groupIs c))) ⌝ }
 {
     let n = group_count(schema);
     if KIND_G < p.latest {
@@ -103,7 +100,7 @@ pub fn load_g(schema: &mut [u64], p: Progress, c: GroupCells) -> Step
 pub fn load_s(schema: &mut [u64], p: Progress, c: RowCells) -> Step
     requires { ⌜ GoodSchema (now schema) ⌝ }
     requires { ⌜ (c .mult < 3) × PathFits (c .path) ⌝ }
-    ensures { λ r. ⌜ ((elements model : List ℕ) → GoodLoading p (now (schema .entry)) elements model → Steps r (now (schema .exit)) elements model (loadS (loadingOf p (now (schema .entry)) elements model) (rowIs c))) ⌝ }
+    ensures { λ r. ⌜ ((elements model : List ℕ) → GoodLoading p (now (schema .entry)) elements model → StepResult r (now (schema .exit)) elements model (loadS (loadingOf p (now (schema .entry)) elements model) (rowIs c))) ⌝ }
 {
     let n = row_count(schema);
     if KIND_S < p.latest {
@@ -139,9 +136,9 @@ fn files_below(schema: &[u64], f: FileNumber) -> bool
 // `F,file,version`: files ascend.
 pub fn load_f(schema: &mut [u64], p: Progress, c: FileCells) -> Step
     requires { ⌜ GoodSchema (now schema) ⌝ }
-    requires { ⌜ (c .file .0 < fileLimit) × (c .version < 32) ⌝ }
+    requires { ⌜ (c .file .0 < fileLimit) × (c .version < versionLimit) ⌝ }
     requires { ⌜ length (schemaOf (now schema) .files) ≡ taken (λ (d : File). d .file) fileLimit (schemaOf (now schema) .files) ⌝ }
-    ensures { λ r. ⌜ ((elements model : List ℕ) → GoodLoading p (now (schema .entry)) elements model → Steps r (now (schema .exit)) elements model (loadF (loadingOf p (now (schema .entry)) elements model) (fileIs c))) ⌝ }
+    ensures { λ r. ⌜ ((elements model : List ℕ) → GoodLoading p (now (schema .entry)) elements model → StepResult r (now (schema .exit)) elements model (loadF (loadingOf p (now (schema .entry)) elements model) (fileIs c))) ⌝ }
 {
     let f = c.file;
     if KIND_F < p.latest {

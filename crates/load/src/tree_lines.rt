@@ -12,7 +12,7 @@ use crate::progress::take_line;
 use deck::lines::ElementCells;
 use deck::lines::TextCells;
 use schema_calls::calls::Found;
-use schema_calls::calls::find_sub_element;
+use schema_calls::calls::row_of_name;
 use schema_calls::files::declared_files;
 use schema_calls::files::declares_file;
 use schema_calls::rules::type_declared;
@@ -25,6 +25,9 @@ use tables::elements::text_count;
 use tables::elements::tree_count;
 use tables::elements::tree_file;
 use tables::file_set::FileSet;
+use tables::limits::DEPTH_LIMIT;
+use tables::limits::ELEMENT_LIMIT;
+use tables::limits::ITEM_LIMIT;
 use tables::model::Item;
 use tables::model::Parent;
 use tables::model::add_element;
@@ -48,22 +51,17 @@ ghost use lib.Dec.{eqb, ltb};
 ghost use lib.ListN.{length, take, set};
 ghost use Rattle.tables.specs.Cells.{Each};
 ghost use Rattle.tables.specs.FileSets.{loadedFiles};
-ghost use Rattle.tables.specs.Limits.{fileLimit, elementLimit, itemLimit};
+ghost use Rattle.tables.specs.Limits.{fileLimit, elementLimit, depthLimit, itemLimit};
 ghost use Rattle.tables.specs.Lists.{anyOf};
 ghost use Rattle.tables.specs.Records.{File, Tree, child, contentItems, addElement, addToModel};
 ghost use Rattle.tables.specs.ElementsTable.{elementsOf, GoodElements, HoldsElements};
 ghost use Rattle.tables.specs.ModelTable.{parentIs, itemIs, countOf, modelOf, ItemBelow, GoodModel, HoldsModel};
 ghost use Rattle.tables.specs.SchemaTable.{schemaOf, GoodSchema, modeFrom};
+ghost use Rattle.tables.specs.SetCells.{setIs};
 ghost use Rattle.tables.specs.Texts.{textFrom};
-ghost use Rattle.deck.specs.Load.{Loading, loadM, mayWait, loadB, owner, inModel, rootSetRule, setRule, append, loadRoot, loadChild, loadE, takesText, loadC};
-ghost use Rattle.load.specs.Lines.{loadingOf, openLimit, GoodLoading, Steps};
+ghost use Rattle.deck.specs.Load.{Loading, loadM, mayWait, loadB, owner, rootSetRule, setRule, append, loadRoot, loadChild, loadE, takesText, loadC};
+ghost use Rattle.load.specs.Lines.{loadingOf, openLimit, GoodLoading, StepResult};
 ghost use Rattle.load.specs.declared.progress.Progress.{Progress};
-
-const ELEMENT_LIMIT: usize = 1024;
-
-const ITEM_LIMIT: usize = 2048;
-
-const DEPTH_LIMIT: u64 = 31;
 
 // After an M or B line: a root is due, and nothing is open.
 fn open_tree(p: Progress, kind: u64, seen: bool) -> Progress
@@ -81,7 +79,7 @@ fn open_tree(p: Progress, kind: u64, seen: bool) -> Progress
 
 // `M`: one M tree.
 pub fn load_m(p: Progress) -> Step
-    ensures { λ r. ⌜ ((schema elements model : List ℕ) → GoodLoading p schema elements model → Steps r schema elements model (loadM (loadingOf p schema elements model))) ⌝ }
+    ensures { λ r. ⌜ ((schema elements model : List ℕ) → GoodLoading p schema elements model → StepResult r schema elements model (loadM (loadingOf p schema elements model))) ⌝ }
 {
     if KIND_M < p.latest {
         return refuse(p, FORM);
@@ -95,15 +93,15 @@ pub fn load_m(p: Progress) -> Step
 // The root's set; none where there is no root.
 fn loaded_files(model: &[u64]) -> FileSet
     requires { ⌜ GoodModel (now model) ⌝ }
-    ensures { λ r. ⌜ r .0 ≡ loadedFiles (modelOf (now (model .entry))) ⌝ }
+    ensures { λ r. ⌜ setIs r ≡ loadedFiles (modelOf (now (model .entry))) ⌝ }
 {
     if count(model) == 0 {
-        return FileSet(0);
+        return FileSet::none();
     }
     set_of(model, Element(0))
 }
 
-// A tree of this file stands.
+// The file has a tree.
 fn has_tree(elements: &[u64], f: FileNumber) -> bool
     requires { ⌜ GoodElements (now elements) ⌝ }
     ensures { λ r. ⌜ r ≡ anyOf (λ (t : Tree). eqb (t .file) (f .0)) (elementsOf (now (elements .entry)) .trees) ⌝ }
@@ -146,7 +144,7 @@ pub fn load_b(
 ) -> Step
     requires { ⌜ GoodLoading p (now schema) (now elements) (now model) ⌝ }
     requires { ⌜ f .0 < fileLimit ⌝ }
-    ensures { λ r. ⌜ Steps r (now (schema .entry)) (now (elements .exit)) (now (model .entry)) (loadB (loadingOf p (now (schema .entry)) (now (elements .entry)) (now (model .entry))) (f .0)) ⌝ }
+    ensures { λ r. ⌜ StepResult r (now (schema .entry)) (now (elements .exit)) (now (model .entry)) (loadB (loadingOf p (now (schema .entry)) (now (elements .entry)) (now (model .entry))) (f .0)) ⌝ }
 {
     if p.due {
         return refuse(p, TREE_RULE);
@@ -208,7 +206,7 @@ fn open_element(p: Progress, d: usize, e: usize) -> Progress
 fn root_set_rule(schema: &[u64], p: Progress, s: FileSet) -> bool
     requires { ⌜ GoodSchema (now schema) ⌝ }
     requires { ⌜ Each (λ (d : File). d .file < fileLimit) (schemaOf (now schema) .files) ⌝ }
-    ensures { λ r. ⌜ ((elements model : List ℕ) → r ≡ rootSetRule (loadingOf p (now (schema .entry)) elements model) (s .0)) ⌝ }
+    ensures { λ r. ⌜ ((elements model : List ℕ) → r ≡ rootSetRule (loadingOf p (now (schema .entry)) elements model) (setIs s)) ⌝ }
 {
     if p.latest != KIND_M {
         return s.is_empty();
@@ -222,7 +220,7 @@ fn root_set_rule(schema: &[u64], p: Progress, s: FileSet) -> bool
 // Other model sets are parts of the root's; waiting sets are 0.
 fn set_rule(model: &[u64], p: Progress, s: FileSet) -> bool
     requires { ⌜ GoodModel (now model) ⌝ }
-    ensures { λ r. ⌜ ((schema elements : List ℕ) → r ≡ setRule (loadingOf p schema elements (now (model .entry))) (s .0)) ⌝ }
+    ensures { λ r. ⌜ ((schema elements : List ℕ) → r ≡ setRule (loadingOf p schema elements (now (model .entry))) (setIs s)) ⌝ }
 {
     if p.latest != KIND_M {
         return s.is_empty();
@@ -240,7 +238,7 @@ fn load_root(
 ) -> Step
     requires { ⌜ GoodLoading p (now schema) (now elements) (now model) ⌝ }
     requires { ⌜ length (elementsOf (now elements) .names) < elementLimit ⌝ }
-    ensures { λ r. ⌜ Steps r (now (schema .entry)) (now (elements .exit)) (now (model .exit)) (loadRoot (loadingOf p (now (schema .entry)) (now (elements .entry)) (now (model .entry))) (c .depth) (c .name .0) (c .set .0)) ⌝ }
+    ensures { λ r. ⌜ StepResult r (now (schema .entry)) (now (elements .exit)) (now (model .exit)) (loadRoot (loadingOf p (now (schema .entry)) (now (elements .entry)) (now (model .entry))) (c .depth) (c .name .0) (setIs (c .set))) ⌝ }
 {
     let n = c.name;
     if c.depth != 0 {
@@ -276,7 +274,7 @@ fn add_child(
     requires { ⌜ owner .0 < countOf (modelOf (now model)) ⌝ }
     requires { ⌜ contentItems (modelOf (now model)) < itemLimit ⌝ }
     ensures { λ _. ⌜ HoldsElements (now (elements .exit)) (addElement (elementsOf (now (elements .entry))) (c .name .0) (t .0) (c .depth)) ⌝ }
-    ensures { λ _. ⌜ HoldsModel (now (model .exit)) (addToModel (append (modelOf (now (model .entry))) (owner .0) (child (length (elementsOf (now (elements .entry)) .names)))) (some (owner .0)) (c .set .0)) ⌝ }
+    ensures { λ _. ⌜ HoldsModel (now (model .exit)) (addToModel (append (modelOf (now (model .entry))) (owner .0) (child (length (elementsOf (now (elements .entry)) .names)))) (some (owner .0)) (setIs (c .set))) ⌝ }
 {
     let e = element_count(elements);
     add_element_row(elements, c.name, t, c.depth);
@@ -294,15 +292,15 @@ fn load_child(
 ) -> Step
     requires { ⌜ GoodLoading p (now schema) (now elements) (now model) ⌝ }
     requires { ⌜ length (elementsOf (now elements) .names) < elementLimit ⌝ }
-    requires { ⌜ c .depth ≤ 31 ⌝ }
+    requires { ⌜ c .depth ≤ depthLimit ⌝ }
     requires { ⌜ (eqb (c .depth) 0 || ltb (contentItems (modelOf (now model))) itemLimit) ≡ true ⌝ }
-    ensures { λ r. ⌜ Steps r (now (schema .entry)) (now (elements .exit)) (now (model .exit)) (loadChild (loadingOf p (now (schema .entry)) (now (elements .entry)) (now (model .entry))) (c .depth) (c .name .0) (c .set .0)) ⌝ }
+    ensures { λ r. ⌜ StepResult r (now (schema .entry)) (now (elements .exit)) (now (model .exit)) (loadChild (loadingOf p (now (schema .entry)) (now (elements .entry)) (now (model .entry))) (c .depth) (c .name .0) (setIs (c .set))) ⌝ }
 {
     let Parent::Of(o) = owner(p, c.depth) else {
         return refuse(p, TREE_RULE);
     };
     let t = element_type(elements, o);
-    let Found::At(i) = find_sub_element(schema, t, c.name, 0xffff_ffff) else {
+    let Found::At(i) = row_of_name(schema, t, c.name) else {
         return refuse(p, TREE_RULE);
     };
     if !set_rule(model, p, c.set) {
@@ -323,7 +321,7 @@ pub fn load_e(
     c: ElementCells,
 ) -> Step
     requires { ⌜ GoodLoading p (now schema) (now elements) (now model) ⌝ }
-    ensures { λ r. ⌜ Steps r (now (schema .entry)) (now (elements .exit)) (now (model .exit)) (loadE (loadingOf p (now (schema .entry)) (now (elements .entry)) (now (model .entry))) (c .depth) (c .name .0) (c .set .0)) ⌝ }
+    ensures { λ r. ⌜ StepResult r (now (schema .entry)) (now (elements .exit)) (now (model .exit)) (loadE (loadingOf p (now (schema .entry)) (now (elements .entry)) (now (model .entry))) (c .depth) (c .name .0) (setIs (c .set))) ⌝ }
 {
     if DEPTH_LIMIT < c.depth {
         return refuse(p, LIMIT);
@@ -360,7 +358,7 @@ pub fn load_c(
 ) -> Step
     requires { ⌜ GoodLoading p (now schema) (now elements) (now model) ⌝ }
     requires { ⌜ c .kind < 4 ⌝ }
-    ensures { λ r. ⌜ Steps r (now (schema .entry)) (now (elements .exit)) (now (model .exit)) (loadC (loadingOf p (now (schema .entry)) (now (elements .entry)) (now (model .entry))) (c .depth) (textFrom (c .kind) (c .value))) ⌝ }
+    ensures { λ r. ⌜ StepResult r (now (schema .entry)) (now (elements .exit)) (now (model .exit)) (loadC (loadingOf p (now (schema .entry)) (now (elements .entry)) (now (model .entry))) (c .depth) (textFrom (c .kind) (c .value))) ⌝ }
 {
     if DEPTH_LIMIT < c.depth {
         return refuse(p, LIMIT);

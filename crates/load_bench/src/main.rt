@@ -5,6 +5,7 @@ use deck::fields::number;
 use load::load::Answer;
 use load::load::load;
 use tables::elements::ELEMENTS_SIZE;
+use tables::limits::DECK_LIMIT;
 use tables::log::LOG_SIZE;
 use tables::model::MODEL_SIZE;
 use tables::schema::SCHEMA_SIZE;
@@ -61,7 +62,7 @@ fn load_deck(deck: &[u8], times: u64) -> u64 {
 }
 
 fn load_open(fd: i32, times: u64) -> u64 {
-    let mut deck = [0u8; 32769];
+    let mut deck = [0u8; DECK_LIMIT + 1];
     let n = io::read_full(fd, &mut deck);
     load_deck(&deck[..n], times)
 }

@@ -14,10 +14,11 @@
 // line_number: the line of a late fault.
 // lines: what the tables hold after load, read back.
 use load_lines::answer::print_answer;
+use tables::limits::DECK_LIMIT;
 
 // The deck in an open file, of which one byte more than a deck may have matters.
 fn print_deck(fd: i32, trees: bool) {
-    let mut deck = [0u8; 32769];
+    let mut deck = [0u8; DECK_LIMIT + 1];
     let n = io::read_full(fd, &mut deck);
     print_answer(&deck[..n], trees);
 }

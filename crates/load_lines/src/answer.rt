@@ -8,12 +8,13 @@ use load::load::load;
 use printing::print::Printed;
 use printing::print::print_trees;
 use tables::elements::ELEMENTS_SIZE;
+use tables::limits::DECK_LIMIT;
 use tables::log::LOG_SIZE;
 use tables::model::MODEL_SIZE;
 use tables::schema::SCHEMA_SIZE;
 
 // Twice the bytes of the largest deck: the lines printed are its own.
-const LINES_SIZE: usize = 65536;
+const LINES_SIZE: usize = 2 * DECK_LIMIT;
 
 fn print_refused(refusal: u64, line: u64) {
     word(b"deck");
@@ -22,12 +23,13 @@ fn print_refused(refusal: u64, line: u64) {
     end();
 }
 
-// What load leaves is never refused.
+// What load leaves is never refused. Where the lines do not fit none is printed.
 fn print_lines(deck: &[u8], schema: &[u64], elements: &[u64], model: &[u64], log: &[u64]) {
     let mut lines = [0u8; LINES_SIZE];
     let p = print_trees(deck, schema, elements, model, log, &mut lines);
     match p {
         Printed::Bytes(n) => word(&lines[..n]),
+        Printed::TooSmall => word(b"too small\n"),
         Printed::Refused => word(b"refused,0\n"),
     }
 }

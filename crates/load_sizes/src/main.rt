@@ -2,6 +2,7 @@
 use load::load::Answer;
 use load::load::load;
 use tables::elements::ELEMENTS_SIZE;
+use tables::limits::DECK_LIMIT;
 use tables::log::LOG_SIZE;
 use tables::model::MODEL_SIZE;
 use tables::schema::SCHEMA_SIZE;
@@ -94,29 +95,29 @@ fn right(deck: &[u8]) {
 // A cell too small, and a cell too large.
 
 fn wrong_schema(deck: &[u8]) {
-    let mut small = [7u64; 5891];
-    let mut large = [7u64; 5893];
+    let mut small = [7u64; SCHEMA_SIZE - 1];
+    let mut large = [7u64; SCHEMA_SIZE + 1];
     with_schema(deck, &mut small);
     with_schema(deck, &mut large);
 }
 
 fn wrong_elements(deck: &[u8]) {
-    let mut small = [7u64; 7298];
-    let mut large = [7u64; 7300];
+    let mut small = [7u64; ELEMENTS_SIZE - 1];
+    let mut large = [7u64; ELEMENTS_SIZE + 1];
     with_elements(deck, &mut small);
     with_elements(deck, &mut large);
 }
 
 fn wrong_model(deck: &[u8]) {
-    let mut small = [7u64; 5121];
-    let mut large = [7u64; 5123];
+    let mut small = [7u64; MODEL_SIZE - 1];
+    let mut large = [7u64; MODEL_SIZE + 1];
     with_model(deck, &mut small);
     with_model(deck, &mut large);
 }
 
 fn wrong_log(deck: &[u8]) {
-    let mut small = [7u64; 5120];
-    let mut large = [7u64; 5122];
+    let mut small = [7u64; LOG_SIZE - 1];
+    let mut large = [7u64; LOG_SIZE + 1];
     with_log(deck, &mut small);
     with_log(deck, &mut large);
 }
@@ -146,7 +147,7 @@ fn long_deck(deck: &[u8]) {
 }
 
 fn main() {
-    let long = [10u8; 32769];
+    let long = [10u8; DECK_LIMIT + 1];
     good_deck(b"T,0,0,0,f\nF,0,2\nM\nE,0,0,1\n");
     right(b"T,0,0,0,f\nX\n");
     long_deck(&long);

@@ -9,6 +9,7 @@ pub mod Stack
 pub mod Withdrawal
 pub mod Invariant
 pub mod Chains
+pub mod Children
 pub mod Changes
 pub mod Moves
 pub mod Walks

@@ -1,22 +1,21 @@
 -- What a load accepts, and every state that calls reach from it, passes the whole of refusal 0. Assumes nothing.
 use mathlib.Core.Bool.{Bool, true, false, false≢true}
-use mathlib.Core.List.{List, []}
+use mathlib.Core.List.{[]}
 use mathlib.Core.Path.{_≡_, refl, ap}
-use Prim.Native.Nat.{ℕ}
+use Rattle.tables.proofs.Laws.Cases.{bool-case}
 use Rattle.deck.specs.Load.{Load, loaded, refusedAt, load}
-use Rattle.load.specs.LoadCall.{Tables, LoadResult, sizesFit, loadInto, loadCall}
+use Rattle.load.specs.LoadCall.{LoadResult, sizesFit, loadInto, loadCall}
 use Rattle.load.specs.declared.load.Answer.{Answer}
 use Rattle.load.specs.declared.load.Answer.the-variants.{Loaded, Refused}
 use Rattle.merge_rules.specs.Sound.{TablesPass, LoadPasses, LoadCallPasses, StaysPassing}
 use Rattle.merge_rules.specs.Withdrawal.{stateAfter}
-use Rattle.merge_rules.proofs.Laws.Cases.{bool-case}
 use Rattle.merge_rules.proofs.Laws.Loaded.{load-sound}
-use Rattle.merge_rules.proofs.Laws.Passing.{passes}
+use Rattle.merge_rules.proofs.Laws.Passing.{sound-passes}
 use Rattle.merge_rules.proofs.Withdrawal.{stays-sound}
 
 -- every state that calls reach passes
 pub stays-passing : StaysPassing
-stays-passing deck x s h cs = passes deck x (stateAfter x cs s) (load-sound deck x s h .fixed) (stays-sound deck x s h cs)
+stays-passing deck x s h cs = sound-passes deck x (stateAfter x cs s) (load-sound deck x s h .fixed) (stays-sound deck x s h cs)
 
 -- so does what the load left
 pub load-passes : LoadPasses

@@ -5,11 +5,11 @@ use Rattle.deck.specs.Deck.{lines}
 use Rattle.deck.specs.Unfolding.{deckRules}
 use Rattle.merge_rules.specs.DeckLines.{treePart, lineDepth, mayFollow, follows, inOrder, PrintsBack, PrintsOvertaken}
 use Rattle.merge_rules.specs.Program.{output}
-use Rattle.merge_rules.proofs.Laws.WholeBack.{Prints, load-prints, loaded-prints}
+use Rattle.merge_rules.proofs.Laws.WholeBack.{LoadPrints, load-prints, loaded-prints}
 
 -- the printed trees are the deck's own lines
 pub prints-back : PrintsBack
-prints-back deck x s h o = loaded-prints deck (subst (Prints deck (treePart (lines deck))) h (load-prints deck o))
+prints-back deck x s h o = loaded-prints deck (subst (LoadPrints deck (treePart (lines deck))) h (load-prints deck o))
 
 -- and the rule is needed
 pub prints-overtaken : PrintsOvertaken

@@ -14,5 +14,4 @@ demand3 deck x s h = let l = load-inv deck x s h in withdrawn-from x (Inv x) (me
 pub stays-sound : StaysSound
 stays-sound deck x s h cs =
     let l = load-inv deck x s h in
-    let i = reached x (Inv x) (merge-inv x) s (l .1) (l .0) cs in
-    record { static = i .static; kept = i .kept; rootSet = i .rootSet }
+    reached x (Inv x) (merge-inv x) s (l .1) (l .0) cs .sound

@@ -1,15 +1,14 @@
--- Document 01, "What each operation refuses": merge, range and rollback of a state. Refusal 0 speaks of the lent tables, and load stands
+-- Document 01, "What each operation refuses": merge, range and rollback of a state. Refusal 0 speaks of the lent tables, and load is
 -- with the deck. Assumes nothing.
-use mathlib.Core.Bool.{Bool, true, false, not, _||_}
-use mathlib.Core.List.{List, [], _∷_}
-use mathlib.Core.Option.{Option, none, some}
-use Prim.Native.Nat.{ℕ, zero, suc, _+_, _-_}
-use lib.Dec.{leb, ltb}
+use mathlib.Core.Bool.{Bool, true, false}
+use mathlib.Core.Option.{none, some}
+use Prim.Native.Nat.{ℕ, suc, _-_}
+use lib.Dec.{ltb}
 use lib.ListN.{length, take}
 use Rattle.tables.specs.FileSets.{loadedFiles, waitingTree}
 use Rattle.tables.specs.Limits.{depthLimit, versionLimit}
 use Rattle.tables.specs.Lists.{keep}
-use Rattle.tables.specs.Records.{Element, Name, FileNumber, Version, Mode, Tree, Entry, import, restriction, extension, Log, State, Fixed, root, typeRow, typeOf}
+use Rattle.tables.specs.Records.{Element, Name, FileNumber, Version, Tree, Entry, import, restriction, extension, Log, State, Fixed, root, typeRow, typeOf}
 use Rattle.deck.specs.Schema.{isCharacters}
 use Rattle.merge_rules.specs.Level.{mergeElement}
 use Rattle.merge_rules.specs.Log.{extend, rollbackMerge, isMark}

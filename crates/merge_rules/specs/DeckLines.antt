@@ -29,16 +29,16 @@ treesLines x m = lineOf (bytes "M" ∷ []) ++ (modelLines x m ++ waitingLines x 
 
 -- ---- the deck's own lines
 
--- the bytes of lines, each with its LF; behind the last LF stands the last part
-unfoldable pub joined : List Part → List ℕ
-joined [] = []
-joined (p ∷ []) = p .bytes
-joined (p ∷ q ∷ ps) = (p .bytes ++ bytes "\n") ++ joined (q ∷ ps)
+-- the bytes of lines, each with its LF; the last part is behind the last LF
+unfoldable pub joinedLines : List Part → List ℕ
+joinedLines [] = []
+joinedLines (p ∷ []) = p .bytes
+joinedLines (p ∷ q ∷ ps) = (p .bytes ++ bytes "\n") ++ joinedLines (q ∷ ps)
 
 -- the lines from the first `M` on
 unfoldable pub treePart : List Part → List ℕ
 treePart [] = []
-treePart (p ∷ ps) = elim (sameList (p .bytes) (bytes "M")) [ true ↦ joined (p ∷ ps) | false ↦ treePart ps ]
+treePart (p ∷ ps) = elim (sameList (p .bytes) (bytes "M")) [ true ↦ joinedLines (p ∷ ps) | false ↦ treePart ps ]
 
 -- ---- decks in the order of their trees
 
@@ -53,7 +53,7 @@ lineDepth (B f) = 0
 lineDepth (E d n s) = d
 lineDepth (C d t) = d
 
--- The line behind a C line is no deeper than it: a deeper one belongs to an element that stands before the text.
+-- The line behind a C line is no deeper than it: a deeper one belongs to an element before the text.
 unfoldable pub mayFollow : Line → Line → Bool
 mayFollow (T t r) next = true
 mayFollow (G g) next = true

@@ -1,16 +1,15 @@
 -- Document 01, "Import, `import_single_item`". Assumes nothing.
-use mathlib.Core.Bool.{Bool, true, false}
+use mathlib.Core.Bool.{true, false}
 use mathlib.Core.List.{List, [], _∷_}
-use mathlib.Core.Option.{Option, some}
-use Prim.Native.Nat.{ℕ, zero, suc, _+_, min, max}
+use mathlib.Core.Option.{some}
+use Prim.Native.Nat.{ℕ, suc, _+_, min, max}
 use lib.Dec.{ltb}
-use lib.ListN.{length}
 use Rattle.tables.specs.FileSets.{withFile}
-use Rattle.tables.specs.Limits.{logLimit, itemLimit}
+use Rattle.tables.specs.Limits.{itemLimit}
 use Rattle.tables.specs.Records.{Element, FileNumber, Version, child, Model, import, State, Fixed, nameOf, parentOf, setOf, putParent, putSet, insertItem, contentItems}
 use Rattle.merge_rules.specs.Log.{change}
 use Rattle.merge_rules.specs.Pairing.{NewItem}
-use Rattle.merge_rules.specs.Range.{Range, places, noRow, conflicting, calcElementInsertRange}
+use Rattle.merge_rules.specs.Range.{places, noRow, conflicting, calcElementInsertRange}
 use Rattle.merge_rules.specs.Refusals.{Outcome, done, conflict, refused, notInVersion, contentFull, _>>=_}
 
 -- The element gets the A parent and the new file in its set.

@@ -1,7 +1,7 @@
 -- Document 01, "Level and Pairs, `merge_element`, `merge_sub_elements`". Assumes nothing.
 use mathlib.Core.Bool.{Bool, true, false, _||_}
 use mathlib.Core.List.{List, [], _∷_}
-use mathlib.Core.Option.{Option, none, some}
+use mathlib.Core.Option.{none, some}
 use Prim.Native.Nat.{ℕ, zero, suc}
 use lib.Dec.{eqb}
 use lib.ListN.{length}
@@ -9,9 +9,9 @@ use Rattle.tables.specs.FileSets.{noSet}
 use Rattle.tables.specs.Records.{Element, FileNumber, FileSet, Version, Model, State, Fixed, nameOf, typeOf, setOf, listOf}
 use Rattle.deck.specs.Schema.{versionOf, leastVersion, splittableIn}
 use Rattle.merge_rules.specs.Import.{clamp, importAt, importNewItems}
-use Rattle.merge_rules.specs.Log.{restrict, extend, placeOf, rollbackMerge}
+use Rattle.merge_rules.specs.Log.{restrict, extend, firstPlaceOf, rollbackMerge}
 use Rattle.merge_rules.specs.Pairing.{childrenOf, identifiable, definitionChild, Pair, Plan, planned, unmergeableIn, walkLevel, firstUsedTwice}
-use Rattle.merge_rules.specs.Range.{Range, places, noRow, conflicting, calcElementInsertRange}
+use Rattle.merge_rules.specs.Range.{places, noRow, conflicting, calcElementInsertRange}
 use Rattle.merge_rules.specs.Refusals.{Outcome, done, conflict, refused, unmergeable, usedTwice, _>>=_}
 
 -- ---- A-only
@@ -41,7 +41,7 @@ keyed x m a = identifiable x m a || elim (definitionChild x m a) [ none ↦ fals
 
 -- A's content index + 1
 unfoldable pub placeBehind : Model → Element → Element → ℕ
-placeBehind m p a = elim (placeOf a (listOf m p)) [ none ↦ 1 | some i ↦ suc i ]
+placeBehind m p a = elim (firstPlaceOf a (listOf m p)) [ none ↦ 1 | some i ↦ suc i ]
 
 -- import B at A's content index + 1, ranges in the level's version; if that range is refused, the old conflict goes up
 unfoldable pub importInstead : Fixed → FileNumber → Version → Element → Pair → Element → State → Outcome

@@ -7,12 +7,12 @@ use lib.Dec.{eqb, leb, ltb}
 use lib.ListN.{length, drop}
 use Rattle.tables.specs.FileSets.{holds, withFile, withoutFile}
 use Rattle.tables.specs.Limits.{logLimit}
-use Rattle.tables.specs.Records.{Element, FileNumber, FileSet, Item, child, text, Model, Entry, import, restriction, extension, Log, State, root, parentOf, setOf, listOf, putParent, putSet, insertItem, removeItem}
+use Rattle.tables.specs.Records.{Element, FileNumber, FileSet, Item, child, text, Model, Entry, import, restriction, extension, Log, State, root, setOf, listOf, putParent, putSet, removeItem}
 use Rattle.merge_rules.specs.Refusals.{Outcome, done, refused, logFull}
 
 -- ---- entries
 
--- 9 exactly when a 1,025th log entry is due: the entry, and the model that it leads to
+-- 9 exactly when a 1,025th log entry is due: the entry, and the model behind it
 unfoldable pub change : Entry → Model → State → Outcome
 change e m s =
     elim (ltb (length (s .log)) logLimit) [
@@ -35,15 +35,15 @@ extend e f s =
 -- ---- rollback
 
 -- the element's first place in a list
-unfoldable pub placeOf : Element → List Item → Option ℕ
-placeOf e [] = none
-placeOf e (child c ∷ is) =
-    elim (eqb c e) [ true ↦ some 0 | false ↦ elim (placeOf e is) [ none ↦ none | some i ↦ some (suc i) ] ]
-placeOf e (text t ∷ is) = elim (placeOf e is) [ none ↦ none | some i ↦ some (suc i) ]
+unfoldable pub firstPlaceOf : Element → List Item → Option ℕ
+firstPlaceOf e [] = none
+firstPlaceOf e (child c ∷ is) =
+    elim (eqb c e) [ true ↦ some 0 | false ↦ elim (firstPlaceOf e is) [ none ↦ none | some i ↦ some (suc i) ] ]
+firstPlaceOf e (text t ∷ is) = elim (firstPlaceOf e is) [ none ↦ none | some i ↦ some (suc i) ]
 
 -- the element's first place, if any, leaves the list
 unfoldable pub takeOut : Element → Element → Model → Model
-takeOut e p m = elim (placeOf e (listOf m p)) [ none ↦ m | some i ↦ removeItem m p i ]
+takeOut e p m = elim (firstPlaceOf e (listOf m p)) [ none ↦ m | some i ↦ removeItem m p i ]
 
 unfoldable pub undo : Entry → Model → Model
 undo (import e p oldParent oldSet) m = putSet (putParent (takeOut e p m) e oldParent) e oldSet

@@ -2,14 +2,14 @@
 use mathlib.Core.Bool.{Bool, true, false, _&&_}
 use mathlib.Core.List.{List, [], _∷_}
 use mathlib.Core.Option.{Option, none, some}
-use Prim.Native.Nat.{ℕ, zero, suc, _+_, Ordering, Ordering·lt, Ordering·eq, Ordering·gt}
+use Prim.Native.Nat.{ℕ, zero, suc, _+_, Ordering·lt, Ordering·eq, Ordering·gt}
 use lib.Dec.{eqb, ltb}
 use lib.ListN.{length}
 use Rattle.tables.specs.Lists.{anyOf, firstOf, keep, sameList}
 use Rattle.tables.specs.Paths.{pathOrder}
 use Rattle.tables.specs.Records.{Element, Name, TypeNumber, Version, SchemaPath, Text, enumNumber, string, wholeNumber, float, Item, child, text, Model, Fixed, typeRow, nameOf, typeOf, textOf, listOf}
 use Rattle.tables.specs.Texts.{bytesAt, sameText}
-use Rattle.deck.specs.Schema.{findSubElement, allVersions, splittableIn, shortName, definitionRef}
+use Rattle.deck.specs.Schema.{rowOfName, splittableIn, shortName, definitionRef}
 
 -- ---- what is compared
 
@@ -119,7 +119,7 @@ calcElementMerge x m bs a b =
 
 -- the path of a name, whatever its mask
 unfoldable pub pathOf : Fixed → TypeNumber → Name → SchemaPath
-pathOf x t n = elim (findSubElement (x .schema) t n allVersions) [ none ↦ [] | some r ↦ r .path ]
+pathOf x t n = elim (rowOfName (x .schema) t n) [ none ↦ [] | some r ↦ r .path ]
 
 -- names differ: smaller A path means A-only, else B-only
 unfoldable pub actionByPath : Fixed → TypeNumber → Element → Element → Action

@@ -1,19 +1,18 @@
 -- Document 01, "Printed example and decks to try": the bytes that the program prints for the bytes of a deck. Assumes nothing.
-use mathlib.Core.Bool.{Bool, true, false}
+use mathlib.Core.Bool.{true, false}
 use mathlib.Core.List.{List, [], _∷_, _++_}
 use mathlib.Core.Option.{Option, none, some}
 use Prim.Native.Nat.{ℕ, zero, suc, _+_, _-_, _/_, _%_}
 use Prim.Native.Char.{code}
 use lib.Dec.{ltb}
-use lib.ListN.{length, drop, take}
 use Rattle.tables.specs.Bytes.{bytes}
 use Rattle.tables.specs.Limits.{depthLimit}
 use Rattle.tables.specs.Records.{Element, FileNumber, Text, enumNumber, string, wholeNumber, float, Tree, Item, child, text, Model, Fixed, State, root, nameOf, depthOf, textOf, setOf, listOf}
 use Rattle.tables.specs.Texts.{bytesAt}
 use Rattle.deck.specs.Load.{load, Load, loaded, refusedAt}
-use Rattle.merge_rules.specs.Calls.{Counts, MergeAnswer, merged, mergeRefused, merge}
+use Rattle.merge_rules.specs.Calls.{MergeAnswer, merged, mergeRefused, merge}
 use Rattle.merge_rules.specs.Unfolding.{mergeRules}
-use Rattle.merge_rules.specs.Refusals.{Refusal, refusalNumber, refusalElement, refusalName}
+use Rattle.merge_rules.specs.Refusals.{refusalNumber, refusalElement, refusalName}
 
 -- ---- numbers and lines
 

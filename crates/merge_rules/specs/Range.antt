@@ -1,12 +1,11 @@
 -- Document 01, "Insert range, `calc_element_insert_range`". Assumes nothing.
-use mathlib.Core.Bool.{Bool, true, false}
 use mathlib.Core.List.{List, [], _∷_}
-use mathlib.Core.Option.{Option, none, some}
-use Prim.Native.Nat.{ℕ, zero, suc, Ordering, Ordering·lt, Ordering·eq, Ordering·gt}
+use mathlib.Core.Option.{none, some}
+use Prim.Native.Nat.{ℕ, suc, Ordering, Ordering·lt, Ordering·eq, Ordering·gt}
 use lib.ListN.{length}
 use Rattle.tables.specs.Paths.{pathOrder}
 use Rattle.tables.specs.Records.{Element, Name, Version, Mode, sequence, choice, bag, mixed, characters, Mult, atMostOne, one, any, SubElement, Item, child, text, Model, Fixed, typeRow, nameOf, typeOf, listOf}
-use Rattle.deck.specs.Schema.{findSubElement, versionMask, allVersions, findCommonGroup}
+use Rattle.deck.specs.Schema.{findSubElement, rowOfName, versionMask, findCommonGroup}
 
 -- the first and last place; no row of the name in the version; a conflict
 pub data Range : Type 0 where
@@ -47,7 +46,7 @@ moveBy characters order mult first index = move first (suc index)
 unfoldable pub moveAt : Fixed → Element → SubElement → Item → ℕ → ℕ → ℕ → Move
 moveAt x p new (text t) index first last = move first (suc index)
 moveAt x p new (child e) index first last =
-    elim (findSubElement (x .schema) (typeOf x p) (nameOf x e) allVersions) [
+    elim (rowOfName (x .schema) (typeOf x p) (nameOf x e)) [
       | none ↦ move first last
       | some old ↦
           moveBy (findCommonGroup (x .schema) (typeOf x p) (new .path) (old .path)) (pathOrder (new .path) (old .path)) (new .mult) first index

@@ -1,17 +1,17 @@
 -- What refusal 0 asks of a state, as facts: every number in its range; each listed element once in its list, one deeper than the list's owner
 -- and of the type that the owner's row gives its name; roots of depth 0 and type 0; one tree a file; sets of declared files; the limits.
--- Assumes nothing.
-use mathlib.Core.Bool.{Bool, true, false}
+-- Beyond what refusal 0 asks, an extension's file is declared. Assumes nothing.
+use mathlib.Core.Bool.{true}
 use mathlib.Core.List.{List, [], _∷_, List·Memᴰ}
-use mathlib.Core.Option.{Option, none, some}
+use mathlib.Core.Option.{some}
 use mathlib.Core.Path.{_≡_}
 use Prim.Native.Nat.{ℕ, suc, _<_, _≤_}
-use lib.ListN.{length}
+use lib.ListN.{length, getD}
 use Rattle.tables.specs.FileSets.{partOf}
 use Rattle.tables.specs.Limits.{elementLimit, depthLimit, itemLimit, logLimit}
-use Rattle.tables.specs.Records.{Element, SubElement, Tree, Item, child, text, Entry, import, restriction, extension, State, Fixed, root, nameOf, typeOf, depthOf, parentOf, setOf, listOf, contentItems}
+use Rattle.tables.specs.Records.{Element, Name, TypeNumber, SubElement, Tree, Item, child, text, Entry, import, restriction, extension, State, Fixed, root, nameOf, typeOf, depthOf, parentOf, setOf, listOf, contentItems}
 use Rattle.deck.specs.Load.{load, loaded}
-use Rattle.deck.specs.Schema.{declaredFiles, declaresFile, findSubElement, allVersions}
+use Rattle.deck.specs.Schema.{declaredFiles, declaresFile, rowOfName}
 use Rattle.load.specs.LoadCall.{Tables, encoded, loadCall}
 use Rattle.load.specs.declared.load.Answer.the-variants.{Loaded}
 use Rattle.state_test.specs.StateTest.{lentTablesPass}
@@ -31,60 +31,68 @@ pub data Once : List Element → Type 0 where
   once-cons : {e : Element} {l : List Element} → (In e l → ⊥) → Once l → Once (e ∷ l)
 
 -- e is one deeper than p, and of the type that the row of its name in p's type gives
-pub record Fits (x : Fixed) (p e : Element) : Type 0 where
+pub record ChildValid (x : Fixed) (p e : Element) : Type 0 where
   pub depth : depthOf x e ≡ suc (depthOf x p)
   pub row : SubElement
-  pub found : findSubElement (x .schema) (typeOf x p) (nameOf x e) allVersions ≡ some row
+  pub found : rowOfName (x .schema) (typeOf x p) (nameOf x e) ≡ some row
   pub type : row .childType ≡ typeOf x e
 
 -- ---- what a load fixes
 
-pub record TreeFits (x : Fixed) (t : Tree) : Type 0 where
+-- names, types and depths of so many elements within the limits, and a root of depth 0 and type 0
+pub record ElementsValid (ns : List Name) (ts : List TypeNumber) (ds : List ℕ) : Type 0 where
+  pub few : length ns ≤ elementLimit
+  pub types : length ts ≡ length ns
+  pub depths : length ds ≡ length ns
+  pub shallow : (e : Element) → getD ds e 0 ≤ depthLimit
+  pub rootDepth : getD ds root 0 ≡ 0
+  pub rootType : getD ts root 0 ≡ 0
+
+pub record TreeValid (x : Fixed) (t : Tree) : Type 0 where
   pub inRange : t .root < count x
-  pub apart : t .root ≡ root → ⊥
+  pub notRoot : t .root ≡ root → ⊥
   pub depth : depthOf x (t .root) ≡ 0
   pub type : typeOf x (t .root) ≡ 0
   pub declared : declaresFile (x .schema) (t .file) ≡ true
 
+-- each of a file and a root of its own
+pub record TreesValid (x : Fixed) (trees : List Tree) : Type 0 where
+  pub valid : (t : Tree) → In t trees → TreeValid x t
+  pub oneFile : (t u : Tree) → In t trees → In u trees → t .file ≡ u .file → t ≡ u
+  pub oneRoot : (t u : Tree) → In t trees → In u trees → t .root ≡ u .root → t ≡ u
+
 pub record Static (x : Fixed) : Type 0 where
   pub some : 0 < count x
-  pub fewElements : count x ≤ elementLimit
-  pub types : length (x .elements .types) ≡ count x
-  pub depths : length (x .elements .depths) ≡ count x
-  pub shallow : (e : Element) → depthOf x e ≤ depthLimit
-  pub rootDepth : depthOf x root ≡ 0
-  pub rootType : typeOf x root ≡ 0
-  pub trees : (t : Tree) → In t (x .elements .trees) → TreeFits x t
-  pub oneFile : (t u : Tree) → In t (x .elements .trees) → In u (x .elements .trees) → t .file ≡ u .file → t ≡ u
-  pub oneRoot : (t u : Tree) → In t (x .elements .trees) → In u (x .elements .trees) → t .root ≡ u .root → t ≡ u
+  pub elements : ElementsValid (x .elements .names) (x .elements .types) (x .elements .depths)
+  pub trees : TreesValid x (x .elements .trees)
 
 -- ---- what every change keeps
 
 -- numbers of items within their range
-abbrev pub ItemFits : Fixed → Item → Type 0
-ItemFits x (child e) = e < count x
-ItemFits x (text t) = t < length (x .elements .texts)
+abbrev pub ItemInRange : Fixed → Item → Type 0
+ItemInRange x (child e) = e < count x
+ItemInRange x (text t) = t < length (x .elements .texts)
 
-abbrev pub EntryFits : Fixed → Entry → Type 0
-EntryFits x (import e p oldParent oldSet) =
+abbrev pub EntryValid : Fixed → Entry → Type 0
+EntryValid x (import e p oldParent oldSet) =
     (e < count x) × (p < count x) × ((q : Element) → oldParent ≡ some q → q < count x)
     × (partOf oldSet (declaredFiles (x .schema)) ≡ true)
-EntryFits x (restriction e oldSet) = (e < count x) × (partOf oldSet (declaredFiles (x .schema)) ≡ true)
-EntryFits x (extension e f) = (e < count x) × (declaresFile (x .schema) f ≡ true)
+EntryValid x (restriction e oldSet) = (e < count x) × (partOf oldSet (declaredFiles (x .schema)) ≡ true)
+EntryValid x (extension e f) = (e < count x) × (declaresFile (x .schema) f ≡ true)
 
 pub record Kept (x : Fixed) (s : State) : Type 0 where
   pub parents : length (s .model .parents) ≡ count x
   pub sets : length (s .model .sets) ≡ count x
   pub lists : length (s .model .lists) ≡ count x
-  pub items : (p : Element) (i : Item) → In i (listOf (s .model) p) → ItemFits x i
-  pub fits : (p e : Element) → In (child e) (listOf (s .model) p) → Fits x p e
+  pub items : (p : Element) (i : Item) → In i (listOf (s .model) p) → ItemInRange x i
+  pub fits : (p e : Element) → In (child e) (listOf (s .model) p) → ChildValid x p e
   pub once : (p : Element) → Once (children (listOf (s .model) p))
   pub deep : (e p : Element) → parentOf (s .model) e ≡ some p → depthOf x e ≡ suc (depthOf x p)
   pub parentRange : (e p : Element) → parentOf (s .model) e ≡ some p → p < count x
   pub declared : (e : Element) → partOf (setOf (s .model) e) (declaredFiles (x .schema)) ≡ true
   pub fewItems : contentItems (s .model) ≤ itemLimit
   pub fewEntries : length (s .log) ≤ logLimit
-  pub entries : (e : Entry) → In e (s .log) → EntryFits x e
+  pub entries : (e : Entry) → In e (s .log) → EntryValid x e
 
 -- ---- the whole
 

@@ -7,7 +7,7 @@ use Rattle.tables.specs.Bytes.{bytes}
 use Rattle.tables.specs.Records.{Element, Name, Fixed, State}
 use Rattle.deck.specs.Load.{load, Load, loaded, refusedAt}
 use Rattle.merge_rules.specs.Book.{Call, callMerge, callRollback, callRange, Answer, ofMerge, ofRollback, ofRange, call}
-use Rattle.merge_rules.specs.Calls.{Counts, merged, mergeRefused, takenOff, rollbackRefused, rangeIs, rangeRefused}
+use Rattle.merge_rules.specs.Calls.{merged, mergeRefused, takenOff, rollbackRefused, rangeIs, rangeRefused}
 use Rattle.merge_rules.specs.Program.{output, modelLines, programRules}
 use Rattle.merge_rules.specs.Refusals.{Refusal, refusalNumber, refusalElement, refusalName}
 use Rattle.merge_rules.specs.Unfolding.{mergeRules}
@@ -18,7 +18,7 @@ use Rattle.merge_rules.specs.Unfolding.{mergeRules}
 pub data Numbered : Type 0 where
   counts : ℕ → ℕ → ℕ → Numbered
   off : ℕ → Numbered
-  between : ℕ → ℕ → Numbered
+  placesBetween : ℕ → ℕ → Numbered
   refusal : ℕ → Option Element → Option Name → Numbered
 
 pub data Row : Type 0 where
@@ -33,7 +33,7 @@ numbered (ofMerge (merged c)) = counts (c .imports) (c .restrictions) (c .extens
 numbered (ofMerge (mergeRefused r)) = numberedRefusal r
 numbered (ofRollback (takenOff n)) = off n
 numbered (ofRollback (rollbackRefused r)) = numberedRefusal r
-numbered (ofRange (rangeIs first last)) = between first last
+numbered (ofRange (rangeIs first last)) = placesBetween first last
 numbered (ofRange (rangeRefused r)) = numberedRefusal r
 
 pub record Result : Type 0 where
@@ -101,14 +101,14 @@ rangeRow mode mult model answer = gives (rangeDeck mode mult model) (callRange 0
 abbrev pub rangeRows : List Row
 rangeRows =
     -- Range, sequence holding paths 0, 1, 2, new path 1: (1, 2) with mult 2,
-    rangeRow (bytes "0") (bytes "2") paths012 (between 1 2)
+    rangeRow (bytes "0") (bytes "2") paths012 (placesBetween 1 2)
     -- 13 with mult 0.
     ∷ rangeRow (bytes "0") (bytes "0") paths012 (refusal 13 (some 0) none)
     -- Empty sequence: (0, 0).
-    ∷ rangeRow (bytes "0") (bytes "2") (bytes "E,0,0,1\n") (between 0 0)
+    ∷ rangeRow (bytes "0") (bytes "2") (bytes "E,0,0,1\n") (placesBetween 0 0)
     -- Choice holding another path: 13; bag of 3: (0, 3).
     ∷ rangeRow (bytes "1") (bytes "2") (bytes "E,0,0,1\nE,1,3,0\n") (refusal 13 (some 0) none)
-    ∷ rangeRow (bytes "2") (bytes "2") paths012 (between 0 3)
+    ∷ rangeRow (bytes "2") (bytes "2") paths012 (placesBetween 0 3)
     ∷ []
 
 -- ---- named elements
@@ -119,38 +119,38 @@ namedDeck split model tree =
     bytes "T,0,0,0," ++ split ++ bytes "\nT,1,0,1,0\nT,2,4,0,0\nS,0,0,3,1,2,f\nS,1,0,1,2,1,f\nF,0,2\nF,1,3\nM\nE,0,0,1\n" ++ model
     ++ bytes "B,1\nE,0,0,0\n" ++ tree
 
-abbrev pub x : List ℕ
-x = bytes "E,1,3,0\nE,2,1,0\nC,3,s,x\n"
+abbrev pub namedX : List ℕ
+namedX = bytes "E,1,3,0\nE,2,1,0\nC,3,s,x\n"
 
-abbrev pub y : List ℕ
-y = bytes "E,1,3,0\nE,2,1,0\nC,3,s,y\n"
+abbrev pub namedY : List ℕ
+namedY = bytes "E,1,3,0\nE,2,1,0\nC,3,s,y\n"
 
 abbrev pub namedRows : List Row
 namedRows =
     -- Named x, y against y, x: two pairs.
-    gives (namedDeck (bytes "0") (x ++ y) (y ++ x)) (callMerge 1 ∷ []) (counts 0 0 1 ∷ []) (bytes "E,0,0,3\n" ++ x ++ y)
+    gives (namedDeck (bytes "0") (namedX ++ namedY) (namedY ++ namedX)) (callMerge 1 ∷ []) (counts 0 0 1 ∷ []) (bytes "E,0,0,3\n" ++ namedX ++ namedY)
     -- x against y: 6,
-    ∷ gives (namedDeck (bytes "0") x y) (callMerge 1 ∷ []) (refusal 6 (some 0) none ∷ []) (bytes "E,0,0,1\n" ++ x)
+    ∷ gives (namedDeck (bytes "0") namedX namedY) (callMerge 1 ∷ []) (refusal 6 (some 0) none ∷ []) (bytes "E,0,0,1\n" ++ namedX)
     -- or both kept if splittable.
-    ∷ gives (namedDeck (bytes "f") x y) (callMerge 1 ∷ []) (counts 1 1 1 ∷ [])
+    ∷ gives (namedDeck (bytes "f") namedX namedY) (callMerge 1 ∷ []) (counts 1 1 1 ∷ [])
     (bytes "E,0,0,3\nE,1,3,1\nE,2,1,0\nC,3,s,x\nE,1,3,2\nE,2,1,0\nC,3,s,y\n")
     ∷ []
 
 -- ---- definitions
 
-abbrev pub d : List ℕ
-d = bytes "E,1,3,0\nE,2,2,0\nC,3,s,d\n"
+abbrev pub definedD : List ℕ
+definedD = bytes "E,1,3,0\nE,2,2,0\nC,3,s,d\n"
 
-abbrev pub e : List ℕ
-e = bytes "E,1,3,0\nE,2,2,0\nC,3,s,e\n"
+abbrev pub definedE : List ℕ
+definedE = bytes "E,1,3,0\nE,2,2,0\nC,3,s,e\n"
 
 abbrev pub definitionRows : List Row
 definitionRows =
     -- Definitions d, d against e, d: 8. The delivered d is element 8.
     gives
-    (bytes "T,0,0,0,f\nT,1,0,0,0\nT,2,4,0,0\nS,0,0,3,1,2,f\nS,1,0,2,2,1,f\nF,0,2\nF,1,3\nM\nE,0,0,1\n" ++ d ++ d
-    ++ bytes "B,1\nE,0,0,0\n" ++ e ++ d)
-    (callMerge 1 ∷ []) (refusal 8 (some 8) none ∷ []) (bytes "E,0,0,1\n" ++ d ++ d)
+    (bytes "T,0,0,0,f\nT,1,0,0,0\nT,2,4,0,0\nS,0,0,3,1,2,f\nS,1,0,2,2,1,f\nF,0,2\nF,1,3\nM\nE,0,0,1\n" ++ definedD ++ definedD
+    ++ bytes "B,1\nE,0,0,0\n" ++ definedE ++ definedD)
+    (callMerge 1 ∷ []) (refusal 8 (some 8) none ∷ []) (bytes "E,0,0,1\n" ++ definedD ++ definedD)
     ∷ []
 
 -- ---- a conflict below

@@ -1,5 +1,5 @@
 -- Demand 3: one claim about a whole list of calls after a load. Assumes nothing.
-use mathlib.Core.Bool.{Bool, true, false}
+use mathlib.Core.Bool.{Bool, false}
 use mathlib.Core.List.{List, [], _∷_, _++_}
 use mathlib.Core.Path.{_≡_}
 use Prim.Native.Nat.{ℕ}
@@ -48,11 +48,11 @@ markOf s = length (s .log)
 
 -- One more rollback, to the mark, is accepted. It leaves every content list, parent and file set of every element, in the model and in
 -- the delivered trees, and the log equal to what they were at the mark. The number of entries it reports taken off is the sum of what
--- stands in the book at the end above what stood there at the mark.
+-- is in the book at the end above what was there at the mark.
 pub record Withdrawn (atMark atEnd : State) (bookAtMark bookAtEnd : Book) : Type 0 where
-  pub standing : List ℕ
-  pub book : bookAtEnd ≡ standing ++ bookAtMark
-  pub accepted : rollback (markOf atMark) atEnd .answer ≡ takenOff (sum standing)
+  pub sumsSince : List ℕ
+  pub book : bookAtEnd ≡ sumsSince ++ bookAtMark
+  pub accepted : rollback (markOf atMark) atEnd .answer ≡ takenOff (sum sumsSince)
   pub state : rollback (markOf atMark) atEnd .state ≡ atMark
 
 -- any list of calls from a state with its book, a mark at its end, and any later list with no accepted rollback below the mark

@@ -3,3 +3,4 @@ pub mod Digits
 pub mod Lines
 pub mod Trees
 pub mod Tables
+pub mod Calls

@@ -1,10 +1,10 @@
 -- What a call that prints the trees answers, and what is asked of the tables that it reads. Assumes nothing.
-use mathlib.Core.Bool.{Bool, true, false}
+use mathlib.Core.Bool.{true, false}
 use mathlib.Core.List.{List, _++_}
-use mathlib.Core.Option.{Option, none, some}
 use mathlib.Core.Path.{_≡_}
 use Prim.Native.Nat.{ℕ, _≤_, _<_}
-use lib.ListN.{length, getD, take}
+use lib.Dec.{leb}
+use lib.ListN.{length, getD, take, drop}
 use Rattle.tables.specs.Bytes.{bytes}
 use Rattle.tables.specs.Limits.{depthLimit}
 use Rattle.tables.specs.Records.{Text, enumNumber, Item, child, text, Fixed, listOf}
@@ -15,7 +15,7 @@ use Rattle.state_test.specs.StateTest.{lentTablesPass, fixedIn}
 use Rattle.merge_rules.specs.DeckLines.{treesLines}
 use Rattle.merge_rules.specs.Program.{kindOfText, valueOfText}
 use Rattle.printing.specs.declared.print.Printed.{Printed}
-use Rattle.printing.specs.declared.print.Printed.the-variants.{Bytes, Refused}
+use Rattle.printing.specs.declared.print.Printed.the-variants.{Bytes, TooSmall, Refused}
 
 -- the last two fields of a C line, with its LF
 abbrev pub valueEnd : Fixed → Text → List ℕ
@@ -37,21 +37,39 @@ abbrev pub ItemIn : List ℕ → List ℕ → Item → Type 0
 ItemIn elements model (child e) = e < countOf (modelOf model)
 ItemIn elements model (text t) = t < length (elementsOf elements .texts)
 
--- the bytes of an answer
-unfoldable pub printedIs : Printed → List ℕ → Option (List ℕ)
-printedIs (Bytes n) out = some (take n out)
-printedIs Refused out = none
+-- ---- the call
 
-unfoldable pub countIs : Printed → ℕ
-countIs (Bytes n) = n
-countIs Refused = 0
+-- the count of bytes printed; that the buffer is too small; the number of the refusal
+pub data PrintAnswer : Type 0 where
+  printedBytes : ℕ → PrintAnswer
+  bufferTooSmall : PrintAnswer
+  printRefused : ℕ → PrintAnswer
 
--- what a call prints into a buffer of this size
-unfoldable pub printsTrees : ℕ → List ℕ → List ℕ → List ℕ → List ℕ → List ℕ → Option (List ℕ)
-printsTrees size deck schema elements model log =
-    elim (lentTablesPass deck schema elements model log)
-    [ true ↦ some (take size (treesLines (fixedIn deck schema elements) (modelOf model))) | false ↦ none ]
+unfoldable pub printAnswerIs : Printed → PrintAnswer
+printAnswerIs (Bytes n) = printedBytes n
+printAnswerIs TooSmall = bufferTooSmall
+printAnswerIs Refused = printRefused 0
 
-pub record Prints (xs ys : List ℕ) (r : Printed) (deck schema elements model log : List ℕ) : Type 0 where
-  pub is : printedIs r ys ≡ printsTrees (length xs) deck schema elements model log
-  pub within : countIs r ≤ length ys
+-- what a call that prints answers and leaves
+pub record PrintResult : Type 0 where
+  pub answer : PrintAnswer
+  pub buffer : List ℕ
+
+abbrev pub printResult : Printed → List ℕ → PrintResult
+printResult r buffer = record { answer = printAnswerIs r; buffer = buffer }
+
+-- a text at a buffer's start; where it does not fit, as much of it as there is room for
+unfoldable pub printText : List ℕ → List ℕ → PrintResult
+printText s buffer =
+    elim (leb (length s) (length buffer)) [
+      | true ↦ record { answer = printedBytes (length s); buffer = s ++ drop (length s) buffer }
+      | false ↦ record { answer = bufferTooSmall; buffer = take (length buffer) s }
+    ]
+
+-- 0 where the tables do not pass; the buffer is then unchanged
+unfoldable pub printTreesCall : List ℕ → List ℕ → List ℕ → List ℕ → List ℕ → List ℕ → PrintResult
+printTreesCall deck schema elements model log buffer =
+    elim (lentTablesPass deck schema elements model log) [
+      | true ↦ printText (treesLines (fixedIn deck schema elements) (modelOf model)) buffer
+      | false ↦ record { answer = printRefused 0; buffer = buffer }
+    ]

@@ -1,27 +1,49 @@
-// Bytes and numbers behind what a buffer holds: at counts the bytes written so far, and the answer counts those after the call.
+// Bytes and numbers behind what is written in a lent buffer.
+ghost use mathlib.Core.Bool.{true};
 ghost use mathlib.Core.List.{[], _∷_, _++_};
 ghost use mathlib.Core.Path.{_≡_};
 ghost use Prim.Native.Nat.{suc, _<_, _≤_};
-ghost use lib.ListN.{length};
 ghost use Rattle.merge_rules.specs.Program.{digitByte, digitsBefore};
-ghost use Rattle.printing.specs.Buffers.{Appends};
+ghost use Rattle.printing.specs.Buffers.{bufferIs, Appends};
 
-pub fn append_byte(out: &mut [u8], at: usize, b: u8) -> usize
-    requires { ⌜ at ≤ length (now out) ⌝ }
-    ensures { λ r. ⌜ Appends (now (out .entry)) (now (out .exit)) at r (b ∷ []) ⌝ }
-{
-    if out.len() <= at {
-        return at;
-    }
-    out[at] = b;
-    at + 1
+// The count of bytes written from the buffer's start, and whether all of the text has fitted.
+pub struct Written {
+    pub count: usize,
+    pub fits: bool,
 }
 
-pub fn append_bytes(out: &mut [u8], at: usize, text: &[u8]) -> usize
-    requires { ⌜ at ≤ length (now out) ⌝ }
-    ensures { λ r. ⌜ Appends (now (out .entry)) (now (out .exit)) at r (now (text .entry)) ⌝ }
+impl Written {
+    pub fn none() -> Written
+        ensures { λ r. ⌜ r ≡ record { count = 0; fits = true } ⌝ }
+    {
+        Written {
+            count: 0,
+            fits: true,
+        }
+    }
+}
+
+pub fn append_byte(out: &mut [u8], w: Written, b: u8) -> Written
+    ensures { λ r. ⌜ Appends (bufferIs w (now (out .entry))) (b ∷ []) (bufferIs r (now (out .exit))) ⌝ }
 {
-    let mut k = at;
+    let at = w.count;
+    if out.len() <= at {
+        return Written {
+            count: at,
+            fits: false,
+        };
+    }
+    out[at] = b;
+    Written {
+        count: at + 1,
+        fits: w.fits,
+    }
+}
+
+pub fn append_bytes(out: &mut [u8], w: Written, text: &[u8]) -> Written
+    ensures { λ r. ⌜ Appends (bufferIs w (now (out .entry))) (now (text .entry)) (bufferIs r (now (out .exit))) ⌝ }
+{
+    let mut k = w;
     let mut i: usize = 0;
     while i < text.len() {
         k = append_byte(out, k, text[i]);
@@ -40,27 +62,25 @@ fn digit_byte(d: u64) -> u8
     97 + (d - 10) as u8
 }
 
-fn append_digits(out: &mut [u8], at: usize, n: u64, radix: u64) -> usize
-    requires { ⌜ at ≤ length (now out) ⌝ }
+fn append_digits(out: &mut [u8], w: Written, n: u64, radix: u64) -> Written
     requires { ⌜ 1 < radix ⌝ }
     requires { ⌜ radix ≤ 16 ⌝ }
-    ensures { λ r. ⌜ Appends (now (out .entry)) (now (out .exit)) at r (digitsBefore (suc n) radix n []) ⌝ }
+    ensures { λ r. ⌜ Appends (bufferIs w (now (out .entry))) (digitsBefore (suc n) radix n []) (bufferIs r (now (out .exit))) ⌝ }
 {
     let d = digit_byte(n % radix);
     if n < radix {
-        return append_byte(out, at, d);
+        return append_byte(out, w, d);
     }
-    let k = append_digits(out, at, n / radix, radix);
+    let k = append_digits(out, w, n / radix, radix);
     append_byte(out, k, d)
 }
 
 // A number and the byte that ends its field.
-pub fn append_number(out: &mut [u8], at: usize, n: u64, radix: u64, end: u8) -> usize
-    requires { ⌜ at ≤ length (now out) ⌝ }
+pub fn append_number(out: &mut [u8], w: Written, n: u64, radix: u64, end: u8) -> Written
     requires { ⌜ 1 < radix ⌝ }
     requires { ⌜ radix ≤ 16 ⌝ }
-    ensures { λ r. ⌜ Appends (now (out .entry)) (now (out .exit)) at r (digitsBefore (suc n) radix n [] ++ (end ∷ [])) ⌝ }
+    ensures { λ r. ⌜ Appends (bufferIs w (now (out .entry))) (digitsBefore (suc n) radix n [] ++ (end ∷ [])) (bufferIs r (now (out .exit))) ⌝ }
 {
-    let k = append_digits(out, at, n, radix);
+    let k = append_digits(out, w, n, radix);
     append_byte(out, k, end)
 }

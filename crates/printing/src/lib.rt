@@ -1,5 +1,5 @@
 // The trees of the tables as bytes in a lent buffer.
-mod buffer;
+pub mod buffer;
 mod lines;
 pub mod print;
 mod trees;

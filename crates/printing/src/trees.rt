@@ -1,4 +1,5 @@
 // Trees, behind what a buffer holds.
+use crate::buffer::Written;
 use crate::buffer::append_bytes;
 use crate::buffer::append_number;
 use crate::lines::append_element_line;
@@ -7,20 +8,20 @@ use tables::elements::element_depth;
 use tables::elements::tree_count;
 use tables::elements::tree_file;
 use tables::elements::tree_root;
+use tables::limits::DEPTH_LIMIT;
 use tables::model::Item;
 use tables::model::item_at;
 use tables::model::list_length;
 use tables::numbers::Element;
 ghost use mathlib.Core.List.{List, [], _∷_};
-ghost use mathlib.Core.Path.{_≡_};
-ghost use Prim.Native.Nat.{ℕ, suc, _<_, _≤_};
-ghost use lib.ListN.{length, getD, drop};
+ghost use Prim.Native.Nat.{ℕ, suc, _<_};
+ghost use lib.ListN.{length, getD};
 ghost use Rattle.tables.specs.Records.{Item, listOf, depthOf};
 ghost use Rattle.tables.specs.ElementsTable.{elementsOf, noTree};
 ghost use Rattle.tables.specs.ModelTable.{countOf, modelOf, itemIs};
 ghost use Rattle.state_test.specs.StateTest.{fixedIn};
 ghost use Rattle.merge_rules.specs.Program.{itemLines, elementLines, modelLines};
-ghost use Rattle.printing.specs.Buffers.{Appends};
+ghost use Rattle.printing.specs.Buffers.{bufferIs, Appends};
 ghost use Rattle.merge_rules.specs.DeckLines.{treeLines, waitingLines, treesLines};
 ghost use Rattle.printing.specs.TreeLines.{Readable, ItemIn};
 
@@ -31,19 +32,18 @@ fn append_element(
     elements: &[u64],
     model: &[u64],
     out: &mut [u8],
-    at: usize,
+    w: Written,
     e: usize,
     left: u64,
-) -> usize
+) -> Written
     requires { ⌜ Readable (now deck) (now elements) (now model) ⌝ }
     requires { ⌜ e < countOf (modelOf (now model)) ⌝ }
-    requires { ⌜ at ≤ length (now out) ⌝ }
-    ensures { λ r. ⌜ ((schema : List ℕ) → Appends (now (out .entry)) (now (out .exit)) at r (elementLines left (fixedIn (now (deck .entry)) schema (now (elements .entry))) (modelOf (now (model .entry))) e)) ⌝ }
+    ensures { λ r. ⌜ ((schema : List ℕ) → Appends (bufferIs w (now (out .entry))) (elementLines left (fixedIn (now (deck .entry)) schema (now (elements .entry))) (modelOf (now (model .entry))) e) (bufferIs r (now (out .exit)))) ⌝ }
 {
     if left == 0 {
-        return at;
+        return w;
     }
-    let k = append_element_line(deck, elements, model, out, at, e);
+    let k = append_element_line(deck, elements, model, out, w, e);
     append_items(deck, elements, model, out, k, e, left - 1)
 }
 
@@ -53,18 +53,17 @@ fn append_items(
     elements: &[u64],
     model: &[u64],
     out: &mut [u8],
-    at: usize,
+    w: Written,
     e: usize,
     left: u64,
-) -> usize
+) -> Written
     requires { ⌜ Readable (now deck) (now elements) (now model) ⌝ }
     requires { ⌜ e < countOf (modelOf (now model)) ⌝ }
-    requires { ⌜ at ≤ length (now out) ⌝ }
-    ensures { λ r. ⌜ ((schema : List ℕ) → Appends (now (out .entry)) (now (out .exit)) at r (itemLines (elementLines left (fixedIn (now (deck .entry)) schema (now (elements .entry))) (modelOf (now (model .entry)))) (fixedIn (now (deck .entry)) schema (now (elements .entry))) (suc (depthOf (fixedIn (now (deck .entry)) schema (now (elements .entry))) e)) (listOf (modelOf (now (model .entry))) e))) ⌝ }
+    ensures { λ r. ⌜ ((schema : List ℕ) → Appends (bufferIs w (now (out .entry))) (itemLines (elementLines left (fixedIn (now (deck .entry)) schema (now (elements .entry))) (modelOf (now (model .entry)))) (fixedIn (now (deck .entry)) schema (now (elements .entry))) (suc (depthOf (fixedIn (now (deck .entry)) schema (now (elements .entry))) e)) (listOf (modelOf (now (model .entry))) e)) (bufferIs r (now (out .exit)))) ⌝ }
 {
     let depth = element_depth(elements, Element(e)) + 1;
     let n = list_length(model, Element(e));
-    let mut k = at;
+    let mut k = w;
     let mut i: usize = 0;
     while i < n {
         let a = item_at(model, Element(e), i);
@@ -79,35 +78,33 @@ fn append_item(
     elements: &[u64],
     model: &[u64],
     out: &mut [u8],
-    at: usize,
+    w: Written,
     a: Item,
     depth: u64,
     left: u64,
-) -> usize
+) -> Written
     requires { ⌜ Readable (now deck) (now elements) (now model) ⌝ }
     requires { ⌜ ItemIn (now elements) (now model) (itemIs a) ⌝ }
-    requires { ⌜ at ≤ length (now out) ⌝ }
-    ensures { λ r. ⌜ ((schema : List ℕ) → Appends (now (out .entry)) (now (out .exit)) at r (itemLines (elementLines left (fixedIn (now (deck .entry)) schema (now (elements .entry))) (modelOf (now (model .entry)))) (fixedIn (now (deck .entry)) schema (now (elements .entry))) depth (itemIs a ∷ []))) ⌝ }
+    ensures { λ r. ⌜ ((schema : List ℕ) → Appends (bufferIs w (now (out .entry))) (itemLines (elementLines left (fixedIn (now (deck .entry)) schema (now (elements .entry))) (modelOf (now (model .entry)))) (fixedIn (now (deck .entry)) schema (now (elements .entry))) depth (itemIs a ∷ [])) (bufferIs r (now (out .exit)))) ⌝ }
 {
     match a {
         Item::Child(x) => {
             let e = x.0;
-            append_element(deck, elements, model, out, at, e, left)
+            append_element(deck, elements, model, out, w, e, left)
         }
-        Item::Text(t) => append_text_line(deck, elements, model, out, at, t, depth),
+        Item::Text(t) => append_text_line(deck, elements, model, out, w, t, depth),
     }
 }
 
 // All levels that a tree has: the largest depth and the root.
-const LEVELS: u64 = 32;
+const LEVELS: u64 = DEPTH_LIMIT + 1;
 
-fn append_model(deck: &[u8], elements: &[u64], model: &[u64], out: &mut [u8], at: usize) -> usize
+fn append_model(deck: &[u8], elements: &[u64], model: &[u64], out: &mut [u8], w: Written) -> Written
     requires { ⌜ Readable (now deck) (now elements) (now model) ⌝ }
     requires { ⌜ 0 < countOf (modelOf (now model)) ⌝ }
-    requires { ⌜ at ≤ length (now out) ⌝ }
-    ensures { λ r. ⌜ ((schema : List ℕ) → Appends (now (out .entry)) (now (out .exit)) at r (modelLines (fixedIn (now (deck .entry)) schema (now (elements .entry))) (modelOf (now (model .entry))))) ⌝ }
+    ensures { λ r. ⌜ ((schema : List ℕ) → Appends (bufferIs w (now (out .entry))) (modelLines (fixedIn (now (deck .entry)) schema (now (elements .entry))) (modelOf (now (model .entry)))) (bufferIs r (now (out .exit)))) ⌝ }
 {
-    append_element(deck, elements, model, out, at, 0, LEVELS)
+    append_element(deck, elements, model, out, w, 0, LEVELS)
 }
 
 // The waiting tree t.
@@ -116,29 +113,33 @@ fn append_tree(
     elements: &[u64],
     model: &[u64],
     out: &mut [u8],
-    at: usize,
+    w: Written,
     t: usize,
-) -> usize
+) -> Written
     requires { ⌜ Readable (now deck) (now elements) (now model) ⌝ }
     requires { ⌜ t < length (elementsOf (now elements) .trees) ⌝ }
-    requires { ⌜ at ≤ length (now out) ⌝ }
-    ensures { λ r. ⌜ ((schema : List ℕ) → Appends (now (out .entry)) (now (out .exit)) at r (treeLines (fixedIn (now (deck .entry)) schema (now (elements .entry))) (modelOf (now (model .entry))) (getD (elementsOf (now (elements .entry)) .trees) t noTree))) ⌝ }
+    ensures { λ r. ⌜ ((schema : List ℕ) → Appends (bufferIs w (now (out .entry))) (treeLines (fixedIn (now (deck .entry)) schema (now (elements .entry))) (modelOf (now (model .entry))) (getD (elementsOf (now (elements .entry)) .trees) t noTree)) (bufferIs r (now (out .exit)))) ⌝ }
 {
     let f = tree_file(elements, t);
     let root = tree_root(elements, t);
     let e = root.0;
-    let k = append_bytes(out, at, b"B,");
+    let k = append_bytes(out, w, b"B,");
     let l = append_number(out, k, f.0, 10, b'\n');
     append_element(deck, elements, model, out, l, e, LEVELS)
 }
 
-fn append_waiting(deck: &[u8], elements: &[u64], model: &[u64], out: &mut [u8], at: usize) -> usize
+fn append_waiting(
+    deck: &[u8],
+    elements: &[u64],
+    model: &[u64],
+    out: &mut [u8],
+    w: Written,
+) -> Written
     requires { ⌜ Readable (now deck) (now elements) (now model) ⌝ }
-    requires { ⌜ at ≤ length (now out) ⌝ }
-    ensures { λ r. ⌜ ((schema : List ℕ) → Appends (now (out .entry)) (now (out .exit)) at r (waitingLines (fixedIn (now (deck .entry)) schema (now (elements .entry))) (modelOf (now (model .entry))) (elementsOf (now (elements .entry)) .trees))) ⌝ }
+    ensures { λ r. ⌜ ((schema : List ℕ) → Appends (bufferIs w (now (out .entry))) (waitingLines (fixedIn (now (deck .entry)) schema (now (elements .entry))) (modelOf (now (model .entry))) (elementsOf (now (elements .entry)) .trees)) (bufferIs r (now (out .exit)))) ⌝ }
 {
     let n = tree_count(elements);
-    let mut k = at;
+    let mut k = w;
     let mut t: usize = 0;
     while t < n {
         k = append_tree(deck, elements, model, out, k, t);
@@ -152,14 +153,13 @@ pub fn append_trees(
     elements: &[u64],
     model: &[u64],
     out: &mut [u8],
-    at: usize,
-) -> usize
+    w: Written,
+) -> Written
     requires { ⌜ Readable (now deck) (now elements) (now model) ⌝ }
     requires { ⌜ 0 < countOf (modelOf (now model)) ⌝ }
-    requires { ⌜ at ≤ length (now out) ⌝ }
-    ensures { λ r. ⌜ ((schema : List ℕ) → Appends (now (out .entry)) (now (out .exit)) at r (treesLines (fixedIn (now (deck .entry)) schema (now (elements .entry))) (modelOf (now (model .entry))))) ⌝ }
+    ensures { λ r. ⌜ ((schema : List ℕ) → Appends (bufferIs w (now (out .entry))) (treesLines (fixedIn (now (deck .entry)) schema (now (elements .entry))) (modelOf (now (model .entry)))) (bufferIs r (now (out .exit)))) ⌝ }
 {
-    let k = append_bytes(out, at, b"M\n");
+    let k = append_bytes(out, w, b"M\n");
     let l = append_model(deck, elements, model, out, k);
     append_waiting(deck, elements, model, out, l)
 }

@@ -7,11 +7,9 @@ use Prim.Native.Nat.{ℕ, _<_, min}
 use lib.Dec.{eqb}
 use lib.ListN.{length, getD, take}
 use Rattle.tables.specs.FileSets.{holds}
-use Rattle.tables.specs.Paths.{samePath, partsOf}
-use Rattle.tables.specs.SchemaTable.{multFrom}
+use Rattle.tables.specs.Paths.{samePath}
 use Rattle.tables.specs.Records.{Name, TypeNumber, FileNumber, FileSet, Version, Mask, SchemaPath, Group, SubElement, File, Schema}
 use Rattle.deck.specs.Schema.{meets}
-use Rattle.deck.specs.declared.lines.RowCells.{RowCells}
 use Rattle.schema_calls.specs.declared.calls.Found.{Found}
 use Rattle.schema_calls.specs.declared.calls.Found.the-variants.{At, Missing}
 
@@ -28,28 +26,16 @@ pub record Finds {A : Type 0} (default : A) (l : List A) (r : Found) (o : Option
   pub is : foundIn default l r ≡ o
   pub within : FoundWithin (length l) r
 
--- the S row that the program's cells stand for
-abbrev pub rowOf : RowCells → SubElement
-rowOf c =
-    record {
-      type = c .ty .0;
-      path = partsOf (c .path);
-      name = c .name .0;
-      childType = c .child .0;
-      mult = multFrom (c .mult);
-      mask = c .mask;
-    }
-
 -- ---- the test of one entry in each search
 
-abbrev pub rowIs : TypeNumber → Name → Mask → SubElement → Bool
-rowIs t n m r = eqb (r .type) t && eqb (r .name) n && meets (r .mask) m
+abbrev pub rowMatches : TypeNumber → Name → Mask → SubElement → Bool
+rowMatches t n m r = eqb (r .type) t && eqb (r .name) n && meets (r .mask) m
 
-abbrev pub groupIs : TypeNumber → SchemaPath → Group → Bool
-groupIs t p g = eqb (g .type) t && samePath (g .path) p
+abbrev pub groupMatches : TypeNumber → SchemaPath → Group → Bool
+groupMatches t p g = eqb (g .type) t && samePath (g .path) p
 
-abbrev pub fileIs : FileNumber → File → Bool
-fileIs f d = eqb (d .file) f
+abbrev pub fileMatches : FileNumber → File → Bool
+fileMatches f d = eqb (d .file) f
 
 -- the smaller of a version and that of the file, if the set has the file
 abbrev pub leastWith : FileSet → FileNumber → Version → Version → Version

@@ -5,8 +5,9 @@ ghost use lib.ListN.{length, getD};
 ghost use Rattle.tables.specs.Limits.{versionLimit};
 ghost use Rattle.tables.specs.Paths.{partsOf};
 ghost use Rattle.tables.specs.SchemaTable.{schemaOf, GoodSchema, modeNumber, noGroup, noSubElement};
-ghost use Rattle.deck.specs.Schema.{findSubElement, groupAt, hasGroup, groupMode, findCommonGroup, splittableIn};
-ghost use Rattle.schema_calls.specs.Calls.{Finds, rowIs, groupIs, groupsAbove};
+ghost use Rattle.deck.specs.Schema.{findSubElement, rowOfName, groupAt, hasGroup, groupMode, findCommonGroup, splittableIn};
+ghost use Rattle.schema_calls.specs.Calls.{Finds, rowMatches, groupMatches, groupsAbove};
+use deck::lines::ALL_VERSIONS;
 use tables::numbers::Name;
 use tables::numbers::TypeNumber;
 use tables::path::Path;
@@ -28,10 +29,10 @@ pub enum Found {
 }
 
 // Row i is the type's, has the name, and its mask meets the mask.
-fn row_is(schema: &[u64], i: usize, t: TypeNumber, n: Name, mask: u64) -> bool
+fn row_matches(schema: &[u64], i: usize, t: TypeNumber, n: Name, mask: u64) -> bool
     requires { ⌜ GoodSchema (now schema) ⌝ }
     requires { ⌜ i < length (schemaOf (now schema) .subElements) ⌝ }
-    ensures { λ r. ⌜ r ≡ rowIs (t .0) (n .0) mask (getD (schemaOf (now (schema .entry)) .subElements) i noSubElement) ⌝ }
+    ensures { λ r. ⌜ r ≡ rowMatches (t .0) (n .0) mask (getD (schemaOf (now (schema .entry)) .subElements) i noSubElement) ⌝ }
 {
     let ty = row_type(schema, i);
     if ty.0 != t.0 {
@@ -52,7 +53,7 @@ pub fn find_sub_element(schema: &[u64], t: TypeNumber, n: Name, mask: u64) -> Fo
     let count = row_count(schema);
     let mut i: usize = 0;
     while i < count {
-        if row_is(schema, i, t, n, mask) {
+        if row_matches(schema, i, t, n, mask) {
             return Found::At(i);
         }
         i += 1;
@@ -60,11 +61,19 @@ pub fn find_sub_element(schema: &[u64], t: TypeNumber, n: Name, mask: u64) -> Fo
     Found::Missing
 }
 
-// Group i is the type's, and stands at the path.
-fn group_is(schema: &[u64], i: usize, t: TypeNumber, p: Path) -> bool
+// The row of the name in the type, whatever its mask.
+pub fn row_of_name(schema: &[u64], t: TypeNumber, n: Name) -> Found
+    requires { ⌜ GoodSchema (now schema) ⌝ }
+    ensures { λ r. ⌜ Finds noSubElement (schemaOf (now (schema .entry)) .subElements) r (rowOfName (schemaOf (now (schema .entry))) (t .0) (n .0)) ⌝ }
+{
+    find_sub_element(schema, t, n, ALL_VERSIONS)
+}
+
+// Group i is the type's, and has the path.
+fn group_matches(schema: &[u64], i: usize, t: TypeNumber, p: Path) -> bool
     requires { ⌜ GoodSchema (now schema) ⌝ }
     requires { ⌜ i < length (schemaOf (now schema) .groups) ⌝ }
-    ensures { λ r. ⌜ r ≡ groupIs (t .0) (partsOf p) (getD (schemaOf (now (schema .entry)) .groups) i noGroup) ⌝ }
+    ensures { λ r. ⌜ r ≡ groupMatches (t .0) (partsOf p) (getD (schemaOf (now (schema .entry)) .groups) i noGroup) ⌝ }
 {
     let ty = group_type(schema, i);
     if ty.0 != t.0 {
@@ -82,7 +91,7 @@ pub fn find_group(schema: &[u64], t: TypeNumber, p: Path, above: usize) -> Found
 {
     let mut i: usize = 0;
     while i < above {
-        if group_is(schema, i, t, p) {
+        if group_matches(schema, i, t, p) {
             return Found::At(i);
         }
         i += 1;

@@ -6,8 +6,9 @@ ghost use Rattle.tables.specs.Limits.{fileLimit};
 ghost use Rattle.tables.specs.Lists.{firstOf};
 ghost use Rattle.tables.specs.Records.{File};
 ghost use Rattle.tables.specs.SchemaTable.{schemaOf, GoodSchema, noFile};
+ghost use Rattle.tables.specs.SetCells.{setIs};
 ghost use Rattle.deck.specs.Schema.{declaresFile, declaredFiles, versionOf, leastVersion};
-ghost use Rattle.schema_calls.specs.Calls.{Finds, fileIs, leastWith};
+ghost use Rattle.schema_calls.specs.Calls.{Finds, fileMatches, leastWith};
 use crate::calls::Found;
 use tables::file_set::FileSet;
 use tables::numbers::FileNumber;
@@ -18,7 +19,7 @@ use tables::schema::file_version;
 // The first row of the file.
 fn find_file(schema: &[u64], f: FileNumber) -> Found
     requires { ⌜ GoodSchema (now schema) ⌝ }
-    ensures { λ r. ⌜ Finds noFile (schemaOf (now (schema .entry)) .files) r (firstOf (fileIs (f .0)) (schemaOf (now (schema .entry)) .files)) ⌝ }
+    ensures { λ r. ⌜ Finds noFile (schemaOf (now (schema .entry)) .files) r (firstOf (fileMatches (f .0)) (schemaOf (now (schema .entry)) .files)) ⌝ }
 {
     let count = file_count(schema);
     let mut i: usize = 0;
@@ -46,9 +47,9 @@ pub fn declares_file(schema: &[u64], f: FileNumber) -> bool
 pub fn declared_files(schema: &[u64]) -> FileSet
     requires { ⌜ GoodSchema (now schema) ⌝ }
     requires { ⌜ Each (λ (d : File). d .file < fileLimit) (schemaOf (now schema) .files) ⌝ }
-    ensures { λ r. ⌜ r .0 ≡ declaredFiles (schemaOf (now (schema .entry))) ⌝ }
+    ensures { λ r. ⌜ setIs r ≡ declaredFiles (schemaOf (now (schema .entry))) ⌝ }
 {
-    let mut s = FileSet(0);
+    let mut s = FileSet::none();
     let mut i = file_count(schema);
     while 0 < i {
         i -= 1;
@@ -72,7 +73,7 @@ pub fn version_of(schema: &[u64], f: FileNumber) -> u64
 
 // The smaller of v and the version w of file f, if the set has the file.
 fn least_with(s: FileSet, f: FileNumber, v: u64, w: u64) -> u64
-    ensures { λ r. ⌜ r ≡ leastWith (s .0) (f .0) v w ⌝ }
+    ensures { λ r. ⌜ r ≡ leastWith (setIs s) (f .0) v w ⌝ }
 {
     if !s.holds(f) {
         return v;
@@ -85,7 +86,7 @@ fn least_with(s: FileSet, f: FileNumber, v: u64, w: u64) -> u64
 
 pub fn least_version(schema: &[u64], s: FileSet, v: u64) -> u64
     requires { ⌜ GoodSchema (now schema) ⌝ }
-    ensures { λ r. ⌜ r ≡ leastVersion (schemaOf (now (schema .entry))) (s .0) v ⌝ }
+    ensures { λ r. ⌜ r ≡ leastVersion (schemaOf (now (schema .entry))) (setIs s) v ⌝ }
 {
     let count = file_count(schema);
     let mut least = v;

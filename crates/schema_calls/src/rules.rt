@@ -6,8 +6,9 @@ ghost use Rattle.tables.specs.Lists.{anyOf, allOf};
 ghost use Rattle.tables.specs.Paths.{partsOf};
 ghost use Rattle.tables.specs.Records.{Mode};
 ghost use Rattle.tables.specs.SchemaTable.{schemaOf, GoodSchema, noGroup, noSubElement};
-ghost use Rattle.deck.specs.Schema.{properBeginnings, declaredType, hasGroup, rowMayStand, groupRule, rowsMeet, beginsGroup, subElementRule};
-ghost use Rattle.schema_calls.specs.Calls.{groupsAbove, rowsAbove, rowOf};
+ghost use Rattle.deck.specs.Answers.{rowIs};
+ghost use Rattle.deck.specs.Schema.{properBeginnings, declaredType, hasGroup, pathValid, groupRule, rowsMeet, beginsGroup, subElementRule};
+ghost use Rattle.schema_calls.specs.Calls.{groupsAbove, rowsAbove};
 use crate::calls::has_group;
 use deck::lines::RowCells;
 use tables::numbers::TypeNumber;
@@ -30,7 +31,7 @@ pub fn type_declared(schema: &[u64], t: TypeNumber) -> bool
 }
 
 // Every proper beginning of the path has a group above this place.
-fn beginnings_stand(schema: &[u64], t: TypeNumber, p: Path, above: usize) -> bool
+fn beginnings_declared(schema: &[u64], t: TypeNumber, p: Path, above: usize) -> bool
     requires { ⌜ GoodSchema (now schema) ⌝ }
     requires { ⌜ above ≤ length (schemaOf (now schema) .groups) ⌝ }
     ensures { λ r. ⌜ r ≡ allOf (hasGroup (groupsAbove (schemaOf (now (schema .entry))) above) (t .0)) (properBeginnings (partsOf p)) ⌝ }
@@ -59,11 +60,11 @@ fn beginnings_stand(schema: &[u64], t: TypeNumber, p: Path, above: usize) -> boo
     has_group(schema, t, Path(a, b, c, 0), above)
 }
 
-// A row of the type may stand at the path, with the groups above this place.
-pub fn row_may_stand(schema: &[u64], t: TypeNumber, p: Path, above: usize) -> bool
+// The type is declared and has rows, and every proper beginning of the path has a group above this place.
+pub fn path_valid(schema: &[u64], t: TypeNumber, p: Path, above: usize) -> bool
     requires { ⌜ GoodSchema (now schema) ⌝ }
     requires { ⌜ above ≤ length (schemaOf (now schema) .groups) ⌝ }
-    ensures { λ r. ⌜ r ≡ rowMayStand (groupsAbove (schemaOf (now (schema .entry))) above) (t .0) (partsOf p) ⌝ }
+    ensures { λ r. ⌜ r ≡ pathValid (groupsAbove (schemaOf (now (schema .entry))) above) (t .0) (partsOf p) ⌝ }
 {
     if !type_declared(schema, t) {
         return false;
@@ -71,7 +72,7 @@ pub fn row_may_stand(schema: &[u64], t: TypeNumber, p: Path, above: usize) -> bo
     if type_mode(schema, t) == 4 {
         return false;
     }
-    beginnings_stand(schema, t, p, above)
+    beginnings_declared(schema, t, p, above)
 }
 
 pub fn group_rule(schema: &[u64], above: usize, t: TypeNumber, p: Path) -> bool
@@ -79,7 +80,7 @@ pub fn group_rule(schema: &[u64], above: usize, t: TypeNumber, p: Path) -> bool
     requires { ⌜ above ≤ length (schemaOf (now schema) .groups) ⌝ }
     ensures { λ r. ⌜ ((mode : Mode) → r ≡ groupRule (groupsAbove (schemaOf (now (schema .entry))) above) (record { type = t .0; path = partsOf p; mode = mode })) ⌝ }
 {
-    if !row_may_stand(schema, t, p, above) {
+    if !path_valid(schema, t, p, above) {
         return false;
     }
     !has_group(schema, t, p, above)
@@ -89,7 +90,7 @@ pub fn group_rule(schema: &[u64], above: usize, t: TypeNumber, p: Path) -> bool
 fn rows_meet(schema: &[u64], i: usize, c: RowCells) -> bool
     requires { ⌜ GoodSchema (now schema) ⌝ }
     requires { ⌜ i < length (schemaOf (now schema) .subElements) ⌝ }
-    ensures { λ r. ⌜ r ≡ rowsMeet (rowOf c) (getD (schemaOf (now (schema .entry)) .subElements) i noSubElement) ⌝ }
+    ensures { λ r. ⌜ r ≡ rowsMeet (rowIs c) (getD (schemaOf (now (schema .entry)) .subElements) i noSubElement) ⌝ }
 {
     let ty = row_type(schema, i);
     let t = c.ty;
@@ -112,7 +113,7 @@ fn rows_meet(schema: &[u64], i: usize, c: RowCells) -> bool
 fn rows_meet_any(schema: &[u64], above: usize, c: RowCells) -> bool
     requires { ⌜ GoodSchema (now schema) ⌝ }
     requires { ⌜ above ≤ length (schemaOf (now schema) .subElements) ⌝ }
-    ensures { λ r. ⌜ r ≡ anyOf (rowsMeet (rowOf c)) (take above (schemaOf (now (schema .entry)) .subElements)) ⌝ }
+    ensures { λ r. ⌜ r ≡ anyOf (rowsMeet (rowIs c)) (take above (schemaOf (now (schema .entry)) .subElements)) ⌝ }
 {
     let mut i: usize = 0;
     while i < above {
@@ -128,7 +129,7 @@ fn rows_meet_any(schema: &[u64], above: usize, c: RowCells) -> bool
 fn begins_group(schema: &[u64], i: usize, c: RowCells) -> bool
     requires { ⌜ GoodSchema (now schema) ⌝ }
     requires { ⌜ i < length (schemaOf (now schema) .groups) ⌝ }
-    ensures { λ r. ⌜ r ≡ beginsGroup (rowOf c) (getD (schemaOf (now (schema .entry)) .groups) i noGroup) ⌝ }
+    ensures { λ r. ⌜ r ≡ beginsGroup (rowIs c) (getD (schemaOf (now (schema .entry)) .groups) i noGroup) ⌝ }
 {
     let ty = group_type(schema, i);
     let t = c.ty;
@@ -142,7 +143,7 @@ fn begins_group(schema: &[u64], i: usize, c: RowCells) -> bool
 
 fn begins_group_any(schema: &[u64], c: RowCells) -> bool
     requires { ⌜ GoodSchema (now schema) ⌝ }
-    ensures { λ r. ⌜ r ≡ anyOf (beginsGroup (rowOf c)) (schemaOf (now (schema .entry)) .groups) ⌝ }
+    ensures { λ r. ⌜ r ≡ anyOf (beginsGroup (rowIs c)) (schemaOf (now (schema .entry)) .groups) ⌝ }
 {
     let count = group_count(schema);
     let mut i: usize = 0;
@@ -158,10 +159,10 @@ fn begins_group_any(schema: &[u64], c: RowCells) -> bool
 pub fn sub_element_rule(schema: &[u64], above: usize, c: RowCells) -> bool
     requires { ⌜ GoodSchema (now schema) ⌝ }
     requires { ⌜ above ≤ length (schemaOf (now schema) .subElements) ⌝ }
-    ensures { λ r. ⌜ r ≡ subElementRule (rowsAbove (schemaOf (now (schema .entry))) above) (rowOf c) ⌝ }
+    ensures { λ r. ⌜ r ≡ subElementRule (rowsAbove (schemaOf (now (schema .entry))) above) (rowIs c) ⌝ }
 {
     let groups = group_count(schema);
-    if !row_may_stand(schema, c.ty, c.path, groups) {
+    if !path_valid(schema, c.ty, c.path, groups) {
         return false;
     }
     if !type_declared(schema, c.child) {

@@ -1,4 +1,4 @@
-pub mod Scans
+pub mod Answers
 pub mod Files
 pub mod Roots
 pub mod Schemas

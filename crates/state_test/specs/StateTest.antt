@@ -5,75 +5,75 @@ use mathlib.Core.List.{List, [], _∷_}
 use mathlib.Core.Option.{none, some}
 use Prim.Native.Nat.{ℕ, suc}
 use lib.Dec.{eqb}
-use lib.ListN.{length, getD}
+use lib.ListN.{length}
 use Rattle.tables.specs.FileSets.{noSet, partOf}
 use Rattle.tables.specs.Lists.{anyOf, allOf}
-use Rattle.tables.specs.Records.{Element, FileSet, FileNumber, Group, SubElement, Schema, Tree, Item, child, text, Entry, import, restriction, extension, Log, Model, Fixed, State, root, nameOf, typeOf, depthOf, setOf, addGroup, addSubElement}
+use Rattle.tables.specs.Records.{Element, FileSet, Group, SubElement, Schema, Tree, Item, child, text, Entry, import, restriction, extension, Model, Fixed, State, root, nameOf, typeOf, depthOf, setOf, addGroup, addSubElement}
 use Rattle.tables.specs.ElementsTable.{elementsOf}
 use Rattle.tables.specs.LogTable.{logOf}
 use Rattle.tables.specs.ModelTable.{modelOf}
 use Rattle.tables.specs.SchemaTable.{schemaOf}
-use Rattle.deck.specs.Schema.{groupRule, subElementRule, declaresFile, declaredFiles, findSubElement, allVersions}
+use Rattle.deck.specs.Schema.{groupRule, subElementRule, declaresFile, declaredFiles, rowOfName}
 use Rattle.table_test.specs.TablesTest.{tablesPass}
 
 -- ---- a schema rule broken
 
--- each G row stands by the rows above it
-unfoldable pub groupsStand : Schema → List Group → Bool
-groupsStand sc [] = true
-groupsStand sc (g ∷ gs) = elim (groupRule sc g) [ true ↦ groupsStand (addGroup sc g) gs | false ↦ false ]
+-- each G row meets its rule, by the rows above it
+unfoldable pub groupsValid : Schema → List Group → Bool
+groupsValid sc [] = true
+groupsValid sc (g ∷ gs) = elim (groupRule sc g) [ true ↦ groupsValid (addGroup sc g) gs | false ↦ false ]
 
--- each S row stands by the rows above it
-unfoldable pub rowsStand : Schema → List SubElement → Bool
-rowsStand sc [] = true
-rowsStand sc (r ∷ rs) = elim (subElementRule sc r) [ true ↦ rowsStand (addSubElement sc r) rs | false ↦ false ]
+-- each S row meets its rule, by the rows above it
+unfoldable pub rowsValid : Schema → List SubElement → Bool
+rowsValid sc [] = true
+rowsValid sc (r ∷ rs) = elim (subElementRule sc r) [ true ↦ rowsValid (addSubElement sc r) rs | false ↦ false ]
 
--- what stands above the first G row
+-- the schema above its first G row
 abbrev pub typesAlone : Schema → Schema
 typesAlone sc = record { types = sc .types; groups = []; subElements = []; files = sc .files }
 
--- what stands above the first S row
+-- the schema above its first S row
 abbrev pub withoutRows : Schema → Schema
 withoutRows sc = record { types = sc .types; groups = sc .groups; subElements = []; files = sc .files }
 
-unfoldable pub schemaStands : Schema → Bool
-schemaStands sc = groupsStand (typesAlone sc) (sc .groups) && rowsStand (withoutRows sc) (sc .subElements)
+unfoldable pub schemaValid : Schema → Bool
+schemaValid sc = groupsValid (typesAlone sc) (sc .groups) && rowsValid (withoutRows sc) (sc .subElements)
 
 -- ---- files
 
 -- the model root's set 0
-unfoldable pub rootSetStands : Model → Bool
-rootSetStands m = not (eqb (setOf m root) noSet)
+unfoldable pub rootSetStored : Model → Bool
+rootSetStored m = not (eqb (setOf m root) noSet)
 
 -- an undeclared file in a set,
 unfoldable pub setDeclared : Schema → FileSet → Bool
 setDeclared sc s = partOf s (declaredFiles sc)
 
--- of the model or of the log
+-- of the model or of the log: an extension entry holds no set, and undone it brings no file in
 unfoldable pub entryDeclared : Schema → Entry → Bool
 entryDeclared sc (import e p oldParent oldSet) = setDeclared sc oldSet
 entryDeclared sc (restriction e oldSet) = setDeclared sc oldSet
-entryDeclared sc (extension e f) = declaresFile sc f
+entryDeclared sc (extension e f) = true
 
 -- or over a waiting tree
 unfoldable pub treeDeclared : Schema → Tree → Bool
 treeDeclared sc t = declaresFile sc (t .file)
 
 -- two waiting trees of one file
-unfoldable pub treesApart : List Tree → Bool
-treesApart [] = true
-treesApart (t ∷ ts) = elim (anyOf (λ (u : Tree). eqb (u .file) (t .file)) ts) [ true ↦ false | false ↦ treesApart ts ]
+unfoldable pub treeFilesDistinct : List Tree → Bool
+treeFilesDistinct [] = true
+treeFilesDistinct (t ∷ ts) = elim (anyOf (λ (u : Tree). eqb (u .file) (t .file)) ts) [ true ↦ false | false ↦ treeFilesDistinct ts ]
 
 -- ---- roots and lists
 
 -- a root not of depth 0 and type 0
-unfoldable pub rootStands : Fixed → Element → Bool
-rootStands x e = eqb (depthOf x e) 0 && eqb (typeOf x e) 0
+unfoldable pub rootValid : Fixed → Element → Bool
+rootValid x e = eqb (depthOf x e) 0 && eqb (typeOf x e) 0
 
 -- a listed element of a type that no row there gives its name
 unfoldable pub itemTyped : Fixed → Element → Item → Bool
 itemTyped x p (child e) =
-    elim (findSubElement (x .schema) (typeOf x p) (nameOf x e) allVersions) [ none ↦ false | some r ↦ eqb (r .childType) (typeOf x e) ]
+    elim (rowOfName (x .schema) (typeOf x p) (nameOf x e)) [ none ↦ false | some r ↦ eqb (r .childType) (typeOf x e) ]
 itemTyped x p (text t) = true
 
 -- the lists of the owners from p on
@@ -83,17 +83,17 @@ listsTyped x p (l ∷ ls) = elim (allOf (itemTyped x p) l) [ true ↦ listsTyped
 
 -- ---- the whole
 
-unfoldable pub filesStand : Fixed → State → Bool
-filesStand x s =
-    rootSetStands (s .model) && allOf (setDeclared (x .schema)) (s .model .sets) && allOf (entryDeclared (x .schema)) (s .log)
-    && allOf (treeDeclared (x .schema)) (x .elements .trees) && treesApart (x .elements .trees)
+unfoldable pub filesDeclared : Fixed → State → Bool
+filesDeclared x s =
+    rootSetStored (s .model) && allOf (setDeclared (x .schema)) (s .model .sets) && allOf (entryDeclared (x .schema)) (s .log)
+    && allOf (treeDeclared (x .schema)) (x .elements .trees) && treeFilesDistinct (x .elements .trees)
 
-unfoldable pub rootsStand : Fixed → Bool
-rootsStand x = rootStands x root && allOf (λ (t : Tree). rootStands x (t .root)) (x .elements .trees)
+unfoldable pub rootsValid : Fixed → Bool
+rootsValid x = rootValid x root && allOf (λ (t : Tree). rootValid x (t .root)) (x .elements .trees)
 
-unfoldable pub stateStands : Fixed → State → Bool
-stateStands x s =
-    schemaStands (x .schema) && filesStand x s && rootsStand x && listsTyped x 0 (s .model .lists)
+unfoldable pub stateValid : Fixed → State → Bool
+stateValid x s =
+    schemaValid (x .schema) && filesDeclared x s && rootsValid x && listsTyped x 0 (s .model .lists)
 
 abbrev pub fixedIn : List ℕ → List ℕ → List ℕ → Fixed
 fixedIn deck schema elements = record { deck = deck; schema = schemaOf schema; elements = elementsOf elements }
@@ -101,7 +101,7 @@ fixedIn deck schema elements = record { deck = deck; schema = schemaOf schema; e
 abbrev pub stateIn : List ℕ → List ℕ → State
 stateIn model log = record { model = modelOf model; log = logOf log }
 
--- no refusal 0 but for load: the tables pass their own test, and what they say stands
+-- no refusal 0 but for load: the tables pass their own test, and the state that they hold is valid
 unfoldable pub lentTablesPass : List ℕ → List ℕ → List ℕ → List ℕ → List ℕ → Bool
 lentTablesPass deck schema elements model log =
-    tablesPass (length deck) schema elements model log && stateStands (fixedIn deck schema elements) (stateIn model log)
+    tablesPass (length deck) schema elements model log && stateValid (fixedIn deck schema elements) (stateIn model log)

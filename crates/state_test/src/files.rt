@@ -1,6 +1,5 @@
 // Sets of declared files, and trees of files of their own.
 use schema_calls::files::declared_files;
-use schema_calls::files::declares_file;
 use tables::elements::tree_count;
 use tables::elements::tree_file;
 use tables::file_set::FileSet;
@@ -12,25 +11,23 @@ use tables::model::set_of;
 use tables::numbers::Element;
 ghost use mathlib.Core.List.{List};
 ghost use mathlib.Core.Path.{_≡_};
-ghost use Prim.Native.Nat.{ℕ, _+_, _<_};
-ghost use lib.Dec.{eqb};
-ghost use lib.ListN.{length, getD, drop};
+ghost use Prim.Native.Nat.{ℕ, _<_};
 ghost use Rattle.tables.specs.Cells.{Each};
-ghost use Rattle.tables.specs.FileSets.{partOf};
 ghost use Rattle.tables.specs.Limits.{fileLimit};
-ghost use Rattle.tables.specs.Lists.{anyOf, allOf};
-ghost use Rattle.tables.specs.Records.{File, Tree};
-ghost use Rattle.tables.specs.ElementsTable.{elementsOf, GoodElements, noTree};
+ghost use Rattle.tables.specs.Lists.{allOf};
+ghost use Rattle.tables.specs.Records.{File, Schema, Tree};
+ghost use Rattle.tables.specs.ElementsTable.{elementsOf, GoodElements};
 ghost use Rattle.tables.specs.LogTable.{logOf, GoodLog, entryIs};
 ghost use Rattle.tables.specs.ModelTable.{modelOf, GoodModel};
 ghost use Rattle.tables.specs.SchemaTable.{schemaOf, GoodSchema};
+ghost use Rattle.tables.specs.SetCells.{setIs};
 ghost use Rattle.deck.specs.Schema.{declaredFiles};
-ghost use Rattle.state_test.specs.StateTest.{rootSetStands, entryDeclared, treeDeclared, treesApart, filesStand, fixedIn, stateIn};
+ghost use Rattle.state_test.specs.StateTest.{rootSetStored, setDeclared, entryDeclared, treeDeclared, treeFilesDistinct, filesDeclared, fixedIn, stateIn};
 
 // The model root's set is not 0.
-fn root_set_stands(model: &[u64]) -> bool
+fn root_set_stored(model: &[u64]) -> bool
     requires { ⌜ GoodModel (now model) ⌝ }
-    ensures { λ r. ⌜ r ≡ rootSetStands (modelOf (now (model .entry))) ⌝ }
+    ensures { λ r. ⌜ r ≡ rootSetStored (modelOf (now (model .entry))) ⌝ }
 {
     if count(model) == 0 {
         return false;
@@ -38,10 +35,10 @@ fn root_set_stands(model: &[u64]) -> bool
     !set_of(model, Element(0)).is_empty()
 }
 
-// Each set of the model is a part of d.
-fn sets_within(model: &[u64], d: FileSet) -> bool
+// Each set of the model is a part of d, the declared files.
+fn sets_declared(model: &[u64], d: FileSet) -> bool
     requires { ⌜ GoodModel (now model) ⌝ }
-    ensures { λ r. ⌜ r ≡ allOf (λ (s : ℕ). partOf s (d .0)) (modelOf (now (model .entry)) .sets) ⌝ }
+    ensures { λ r. ⌜ ((sc : Schema) → setIs d ≡ declaredFiles sc → r ≡ allOf (setDeclared sc) (modelOf (now (model .entry)) .sets)) ⌝ }
 {
     let n = count(model);
     let mut e = 0;
@@ -54,46 +51,42 @@ fn sets_within(model: &[u64], d: FileSet) -> bool
     true
 }
 
-// The entry's set is a part of d, the declared files, or its file is declared.
-fn entry_declared(schema: &[u64], d: FileSet, a: Entry) -> bool
-    requires { ⌜ GoodSchema (now schema) ⌝ }
-    requires { ⌜ d .0 ≡ declaredFiles (schemaOf (now schema)) ⌝ }
-    ensures { λ r. ⌜ r ≡ entryDeclared (schemaOf (now (schema .entry))) (entryIs a) ⌝ }
+// The entry's old set, if it has one, is a part of d.
+fn entry_declared(d: FileSet, a: Entry) -> bool
+    ensures { λ r. ⌜ ((sc : Schema) → setIs d ≡ declaredFiles sc → r ≡ entryDeclared sc (entryIs a)) ⌝ }
 {
     match a {
         Entry::Import(_, _, _, s) => s.part_of(d),
         Entry::Restriction(_, s) => s.part_of(d),
-        Entry::Extension(_, f) => declares_file(schema, f),
+        Entry::Extension(_, _) => true,
     }
 }
 
 // The newest entry first, as the log has them.
-fn log_declared(schema: &[u64], log: &[u64], d: FileSet) -> bool
-    requires { ⌜ GoodSchema (now schema) ⌝ }
+fn log_declared(log: &[u64], d: FileSet) -> bool
     requires { ⌜ GoodLog (now log) ⌝ }
-    requires { ⌜ d .0 ≡ declaredFiles (schemaOf (now schema)) ⌝ }
-    ensures { λ r. ⌜ r ≡ allOf (entryDeclared (schemaOf (now (schema .entry)))) (logOf (now (log .entry))) ⌝ }
+    ensures { λ r. ⌜ ((sc : Schema) → setIs d ≡ declaredFiles sc → r ≡ allOf (entryDeclared sc) (logOf (now (log .entry)))) ⌝ }
 {
     let mut i = log_length(log);
     while 0 < i {
         i -= 1;
         let a = entry_at(log, i);
-        if !entry_declared(schema, d, a) {
+        if !entry_declared(d, a) {
             return false;
         }
     }
     true
 }
 
-fn trees_declared(schema: &[u64], elements: &[u64]) -> bool
-    requires { ⌜ GoodSchema (now schema) ⌝ }
+// Each tree's file is in d.
+fn trees_declared(elements: &[u64], d: FileSet) -> bool
     requires { ⌜ GoodElements (now elements) ⌝ }
-    ensures { λ r. ⌜ r ≡ allOf (treeDeclared (schemaOf (now (schema .entry)))) (elementsOf (now (elements .entry)) .trees) ⌝ }
+    ensures { λ r. ⌜ ((sc : Schema) → setIs d ≡ declaredFiles sc → r ≡ allOf (treeDeclared sc) (elementsOf (now (elements .entry)) .trees)) ⌝ }
 {
     let n = tree_count(elements);
     let mut i = 0;
     while i < n {
-        if !declares_file(schema, tree_file(elements, i)) {
+        if !d.holds(tree_file(elements, i)) {
             return false;
         }
         i += 1;
@@ -101,60 +94,47 @@ fn trees_declared(schema: &[u64], elements: &[u64]) -> bool
     true
 }
 
-// A tree behind tree i has the same file.
-fn tree_again(elements: &[u64], i: usize) -> bool
+// No tree's file is among those of the trees before it.
+fn tree_files_distinct(elements: &[u64]) -> bool
     requires { ⌜ GoodElements (now elements) ⌝ }
-    requires { ⌜ i < length (elementsOf (now elements) .trees) ⌝ }
-    ensures { λ r. ⌜ r ≡ anyOf (λ (u : Tree). eqb (u .file) (getD (elementsOf (now (elements .entry)) .trees) i noTree .file)) (drop (i + 1) (elementsOf (now (elements .entry)) .trees)) ⌝ }
-{
-    let f = tree_file(elements, i);
-    let n = tree_count(elements);
-    let mut j = i + 1;
-    while j < n {
-        let g = tree_file(elements, j);
-        if g.0 == f.0 {
-            return true;
-        }
-        j += 1;
-    }
-    false
-}
-
-fn trees_apart(elements: &[u64]) -> bool
-    requires { ⌜ GoodElements (now elements) ⌝ }
-    ensures { λ r. ⌜ r ≡ treesApart (elementsOf (now (elements .entry)) .trees) ⌝ }
+    requires { ⌜ Each (λ (t : Tree). t .file < fileLimit) (elementsOf (now elements) .trees) ⌝ }
+    ensures { λ r. ⌜ r ≡ treeFilesDistinct (elementsOf (now (elements .entry)) .trees) ⌝ }
 {
     let n = tree_count(elements);
+    let mut seen = FileSet::none();
     let mut i = 0;
     while i < n {
-        if tree_again(elements, i) {
+        let f = tree_file(elements, i);
+        if seen.holds(f) {
             return false;
         }
+        seen = seen.with(f);
         i += 1;
     }
     true
 }
 
-pub fn files_stand(schema: &[u64], elements: &[u64], model: &[u64], log: &[u64]) -> bool
+pub fn files_declared(schema: &[u64], elements: &[u64], model: &[u64], log: &[u64]) -> bool
     requires { ⌜ GoodSchema (now schema) ⌝ }
     requires { ⌜ Each (λ (d : File). d .file < fileLimit) (schemaOf (now schema) .files) ⌝ }
     requires { ⌜ GoodElements (now elements) ⌝ }
+    requires { ⌜ Each (λ (t : Tree). t .file < fileLimit) (elementsOf (now elements) .trees) ⌝ }
     requires { ⌜ GoodModel (now model) ⌝ }
     requires { ⌜ GoodLog (now log) ⌝ }
-    ensures { λ r. ⌜ ((deck : List ℕ) → r ≡ filesStand (fixedIn deck (now (schema .entry)) (now (elements .entry))) (stateIn (now (model .entry)) (now (log .entry)))) ⌝ }
+    ensures { λ r. ⌜ ((deck : List ℕ) → r ≡ filesDeclared (fixedIn deck (now (schema .entry)) (now (elements .entry))) (stateIn (now (model .entry)) (now (log .entry)))) ⌝ }
 {
     let d = declared_files(schema);
-    if !root_set_stands(model) {
+    if !root_set_stored(model) {
         return false;
     }
-    if !sets_within(model, d) {
+    if !sets_declared(model, d) {
         return false;
     }
-    if !log_declared(schema, log, d) {
+    if !log_declared(log, d) {
         return false;
     }
-    if !trees_declared(schema, elements) {
+    if !trees_declared(elements, d) {
         return false;
     }
-    trees_apart(elements)
+    tree_files_distinct(elements)
 }

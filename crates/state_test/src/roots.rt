@@ -1,6 +1,6 @@
 // Roots of depth 0 and type 0, and listed elements of the type that a row gives their name.
 use schema_calls::calls::Found;
-use schema_calls::calls::find_sub_element;
+use schema_calls::calls::row_of_name;
 use tables::elements::element_count;
 use tables::elements::element_depth;
 use tables::elements::element_name;
@@ -22,11 +22,11 @@ ghost use Rattle.tables.specs.Records.{child, listOf};
 ghost use Rattle.tables.specs.ElementsTable.{elementsOf, GoodElements};
 ghost use Rattle.tables.specs.ModelTable.{itemIs, countOf, modelOf, ItemBelow, GoodModel};
 ghost use Rattle.tables.specs.SchemaTable.{GoodSchema};
-ghost use Rattle.state_test.specs.StateTest.{rootStands, rootsStand, itemTyped, listsTyped, fixedIn};
+ghost use Rattle.state_test.specs.StateTest.{rootValid, rootsValid, itemTyped, listsTyped, fixedIn};
 
-fn root_stands(elements: &[u64], e: Element) -> bool
+fn root_valid(elements: &[u64], e: Element) -> bool
     requires { ⌜ GoodElements (now elements) ⌝ }
-    ensures { λ r. ⌜ ((deck schema : List ℕ) → r ≡ rootStands (fixedIn deck schema (now (elements .entry))) (e .0)) ⌝ }
+    ensures { λ r. ⌜ ((deck schema : List ℕ) → r ≡ rootValid (fixedIn deck schema (now (elements .entry))) (e .0)) ⌝ }
 {
     let i = e.0;
     if element_count(elements) <= i {
@@ -40,17 +40,17 @@ fn root_stands(elements: &[u64], e: Element) -> bool
 }
 
 // The model's root, and each tree's.
-pub fn roots_stand(elements: &[u64]) -> bool
+pub fn roots_valid(elements: &[u64]) -> bool
     requires { ⌜ GoodElements (now elements) ⌝ }
-    ensures { λ r. ⌜ ((deck schema : List ℕ) → r ≡ rootsStand (fixedIn deck schema (now (elements .entry)))) ⌝ }
+    ensures { λ r. ⌜ ((deck schema : List ℕ) → r ≡ rootsValid (fixedIn deck schema (now (elements .entry)))) ⌝ }
 {
-    if !root_stands(elements, Element(0)) {
+    if !root_valid(elements, Element(0)) {
         return false;
     }
     let n = tree_count(elements);
     let mut i = 0;
     while i < n {
-        if !root_stands(elements, tree_root(elements, i)) {
+        if !root_valid(elements, tree_root(elements, i)) {
             return false;
         }
         i += 1;
@@ -81,7 +81,7 @@ fn child_typed(schema: &[u64], elements: &[u64], p: Element, e: Element) -> bool
 {
     let t = element_type(elements, p);
     let n = element_name(elements, e);
-    let Found::At(i) = find_sub_element(schema, t, n, 0xffff_ffff) else {
+    let Found::At(i) = row_of_name(schema, t, n) else {
         return false;
     };
     let c = row_child(schema, i);

@@ -1,4 +1,4 @@
-// Each G and S row stands by the rows above it.
+// Each G and S row meets its rule, by the rows above it.
 use deck::lines::RowCells;
 use schema_calls::rules::group_rule;
 use schema_calls::rules::sub_element_rule;
@@ -16,12 +16,12 @@ ghost use mathlib.Core.Path.{_≡_};
 ghost use Prim.Native.Nat.{_<_};
 ghost use lib.ListN.{length, getD};
 ghost use Rattle.tables.specs.SchemaTable.{schemaOf, GoodSchema, noSubElement};
-ghost use Rattle.schema_calls.specs.Calls.{rowOf};
-ghost use Rattle.state_test.specs.StateTest.{groupsStand, rowsStand, schemaStands, typesAlone, withoutRows};
+ghost use Rattle.deck.specs.Answers.{rowIs};
+ghost use Rattle.state_test.specs.StateTest.{groupsValid, rowsValid, schemaValid, typesAlone, withoutRows};
 
-fn groups_stand(schema: &[u64]) -> bool
+fn groups_valid(schema: &[u64]) -> bool
     requires { ⌜ GoodSchema (now schema) ⌝ }
-    ensures { λ r. ⌜ r ≡ groupsStand (typesAlone (schemaOf (now (schema .entry)))) (schemaOf (now (schema .entry)) .groups) ⌝ }
+    ensures { λ r. ⌜ r ≡ groupsValid (typesAlone (schemaOf (now (schema .entry)))) (schemaOf (now (schema .entry)) .groups) ⌝ }
 {
     let n = group_count(schema);
     let mut i = 0;
@@ -38,7 +38,7 @@ fn groups_stand(schema: &[u64]) -> bool
 fn row_cells(schema: &[u64], i: usize) -> RowCells
     requires { ⌜ GoodSchema (now schema) ⌝ }
     requires { ⌜ i < length (schemaOf (now schema) .subElements) ⌝ }
-    ensures { λ r. ⌜ rowOf r ≡ getD (schemaOf (now (schema .entry)) .subElements) i noSubElement ⌝ }
+    ensures { λ r. ⌜ rowIs r ≡ getD (schemaOf (now (schema .entry)) .subElements) i noSubElement ⌝ }
 {
     RowCells {
         ty: row_type(schema, i),
@@ -50,9 +50,9 @@ fn row_cells(schema: &[u64], i: usize) -> RowCells
     }
 }
 
-fn rows_stand(schema: &[u64]) -> bool
+fn rows_valid(schema: &[u64]) -> bool
     requires { ⌜ GoodSchema (now schema) ⌝ }
-    ensures { λ r. ⌜ r ≡ rowsStand (withoutRows (schemaOf (now (schema .entry)))) (schemaOf (now (schema .entry)) .subElements) ⌝ }
+    ensures { λ r. ⌜ r ≡ rowsValid (withoutRows (schemaOf (now (schema .entry)))) (schemaOf (now (schema .entry)) .subElements) ⌝ }
 {
     let n = row_count(schema);
     let mut i = 0;
@@ -65,12 +65,12 @@ fn rows_stand(schema: &[u64]) -> bool
     true
 }
 
-pub fn schema_stands(schema: &[u64]) -> bool
+pub fn schema_valid(schema: &[u64]) -> bool
     requires { ⌜ GoodSchema (now schema) ⌝ }
-    ensures { λ r. ⌜ r ≡ schemaStands (schemaOf (now (schema .entry))) ⌝ }
+    ensures { λ r. ⌜ r ≡ schemaValid (schemaOf (now (schema .entry))) ⌝ }
 {
-    if !groups_stand(schema) {
+    if !groups_valid(schema) {
         return false;
     }
-    rows_stand(schema)
+    rows_valid(schema)
 }

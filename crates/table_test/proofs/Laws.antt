@@ -1,6 +1,7 @@
 pub mod Scans
 pub mod ModelTest
 pub mod RowsTest
+pub mod AreaTest
 pub mod LogTest
 pub mod ElementsTest
 pub mod SchemaTest

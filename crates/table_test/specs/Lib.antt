@@ -1,5 +1,6 @@
 pub mod ModelTest
-pub mod RowsTest
+pub mod RowTests
+pub mod AreaTest
 pub mod LogTest
 pub mod ElementsTest
 pub mod SchemaTest

@@ -4,17 +4,15 @@
 use mathlib.Core.Bool.{Bool, true, false, _&&_}
 use mathlib.Core.List.{List, [], _∷_}
 use mathlib.Core.Path.{_≡_}
-use Prim.Native.Nat.{ℕ, _+_, _-_, _≤_}
+use Prim.Native.Nat.{ℕ, _+_, _*_, _≤_}
 use lib.Dec.{eqb, leb, ltb}
-use lib.ListN.{length, getD, take, drop}
+use lib.ListN.{length, getD}
+use Rattle.tables.specs.Cells.{between}
 use Rattle.tables.specs.Limits.{elementLimit, itemLimit}
 use Rattle.tables.specs.Lists.{anyOf, allOf}
 use Rattle.tables.specs.Records.{Item, child, text, Model}
+use Rattle.tables.specs.SetCells.{setWidth}
 use Rattle.tables.specs.ModelTable.{parentsAt, setsAt, startsAt, itemsAt, modelSize, cellItem, modelOf, flat, countOf, GoodModel}
-
--- the cells from a up to b
-abbrev pub between : ℕ → ℕ → List ℕ → List ℕ
-between a b xs = take (b - a) (drop a xs)
 
 abbrev pub isZero : ℕ → Bool
 isZero c = eqb c 0
@@ -60,9 +58,9 @@ modelShape xs =
 
 unfoldable pub modelUnused : List ℕ → Bool
 modelUnused xs =
-    allOf isZero (between (parentsAt + countIn xs) setsAt xs)
-    && (allOf isZero (between (setsAt + countIn xs) startsAt xs)
-    && (allOf isZero (between (startsAt + 1 + countIn xs) itemsAt xs) && allOf isZero (between (itemsAt + totalIn xs) modelSize xs)))
+    allOf isZero (between (parentsAt + countIn xs) startsAt xs)
+    && (allOf isZero (between (startsAt + 1 + countIn xs) itemsAt xs)
+    && (allOf isZero (between (itemsAt + totalIn xs) setsAt xs) && allOf isZero (between (setsAt + countIn xs * setWidth) modelSize xs)))
 
 unfoldable pub modelUsed : ℕ → List ℕ → Bool
 modelUsed texts xs =

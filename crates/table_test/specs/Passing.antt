@@ -5,7 +5,7 @@ use mathlib.Core.Path.{_≡_}
 use Prim.Native.Nat.{ℕ, _+_, _≤_, _<_}
 use lib.ListN.{length, getD}
 use Rattle.tables.specs.Cells.{Each}
-use Rattle.tables.specs.Limits.{depthLimit}
+use Rattle.tables.specs.Limits.{depthLimit, nameLimit, partLimit}
 use Rattle.tables.specs.Records.{SchemaPath, characters, Group, SubElement, Schema, Elements, Item, child, text, Model, Log, listOf}
 use Rattle.tables.specs.SchemaTable.{SizedSchema}
 use Rattle.tables.specs.ElementsTable.{SizedElements}
@@ -13,14 +13,14 @@ use Rattle.tables.specs.ModelTable.{flat, SizedModel}
 use Rattle.tables.specs.LogTable.{SizedLog}
 use Rattle.table_test.specs.ModelTest.{onceIn}
 use Rattle.table_test.specs.LogTest.{EntryIn}
-use Rattle.table_test.specs.ElementsTest.{nameLimit, TextIn, TreeIn}
-use Rattle.table_test.specs.SchemaTest.{partLimit, TypeIn, GroupIn, RowIn, FilesIn}
+use Rattle.table_test.specs.ElementsTest.{TextIn, TreeIn}
+use Rattle.table_test.specs.SchemaTest.{TypeIn, GroupIn, RowIn, FilesIn}
 
 -- ---- schema
 
 -- parts from 0 to 255
 abbrev pub PartsIn : SchemaPath → Type 0
-PartsIn p = Each (λ (a : ℕ). a < partLimit) p
+PartsIn p = Each (λ (a : ℕ). a ≤ partLimit) p
 
 abbrev pub GroupPassing : Group → Type 0
 GroupPassing g = GroupIn g × PartsIn (g .path) × (g .mode ≡ characters → ⊥)

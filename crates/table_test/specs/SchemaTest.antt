@@ -1,95 +1,32 @@
 -- The test of a schema table, the part of refusal 0 that needs this table alone. Assumes nothing.
-use mathlib.Core.Bool.{Bool, true, cond, _&&_}
+use mathlib.Core.Bool.{Bool, true, _&&_}
 use mathlib.Core.List.{List, [], _∷_}
-use Prim.Native.Nat.{ℕ, _+_, _*_, _≤_, _<_}
-use lib.Dec.{eqb, leb, ltb}
-use lib.ListN.{length, getD, drop}
-use Rattle.tables.specs.Cells.{Each}
-use Rattle.tables.specs.Limits.{typeLimit, groupLimit, rowLimit, fileLimit, versionLimit}
-use Rattle.tables.specs.Lists.{allOf}
+use Prim.Native.Nat.{ℕ, _+_, _≤_, _<_}
+use lib.Dec.{eqb, ltb}
+use lib.ListN.{length, getD}
+use Rattle.tables.specs.Cells.{between, Each}
+use Rattle.tables.specs.Limits.{typeLimit, fileLimit, versionLimit, nameLimit, maskLimit}
 use Rattle.tables.specs.Records.{TypeRow, Group, SubElement, File}
-use Rattle.table_test.specs.ModelTest.{between, isZero}
 use Rattle.tables.specs.SchemaTable.{schemaSize, typesAt, groupsAt, rowsAt, filesAt, schemaOf, GoodSchema}
-use Rattle.table_test.specs.ElementsTest.{nameLimit}
-use Rattle.table_test.specs.RowsTest.{every, rowsIn, areaPasses}
+use Rattle.table_test.specs.RowTests.{every}
+use Rattle.table_test.specs.AreaTest.{areaWidth, rowsIn, areaPasses}
+use Rattle.table_test.specs.declared.area_test.Area.the-variants.{Types, Groups, SubElements, Files}
 
--- the largest part of a path, as its cell has it: part + 1
-abbrev pub partLimit : ℕ
-partLimit = 256
+-- each file's number is more than the one before
+unfoldable pub filesAscend : List (List ℕ) → Bool
+filesAscend [] = true
+filesAscend (r ∷ []) = true
+filesAscend (r ∷ q ∷ rows) = ltb (getD r 0 0) (getD q 0 0) && filesAscend (q ∷ rows)
 
--- masks are below this: a bit for each version
-abbrev pub maskLimit : ℕ
-maskLimit = 4294967296
-
--- at least one part, each in its range, and none behind a 0
-abbrev pub pathTests : ℕ → ℕ → ℕ → ℕ → List Bool
-pathTests a b c d =
-    ltb 0 a
-    ∷ leb a partLimit
-    ∷ leb b partLimit
-    ∷ leb c partLimit
-    ∷ leb d partLimit
-    ∷ cond (eqb b 0) (eqb c 0) true
-    ∷ cond (eqb c 0) (eqb d 0) true
-    ∷ []
-
-unfoldable pub pathPasses : ℕ → ℕ → ℕ → ℕ → Bool
-pathPasses a b c d = every (pathTests a b c d)
-
-abbrev pub typeTests : ℕ → ℕ → ℕ → List Bool
-typeTests mode named split = leb mode 4 ∷ leb named 1 ∷ ltb split maskLimit ∷ []
-
-unfoldable pub typePasses : List ℕ → Bool
-typePasses row = every (typeTests (getD row 0 0) (getD row 1 0) (getD row 2 0))
-
--- a path of at most three parts; a mode other than characters
-abbrev pub groupTests : ℕ → ℕ → ℕ → ℕ → ℕ → ℕ → List Bool
-groupTests type a b c d mode = ltb type typeLimit ∷ pathPasses a b c d ∷ eqb d 0 ∷ leb mode 3 ∷ []
-
-unfoldable pub groupPasses : List ℕ → Bool
-groupPasses row = every (groupTests (getD row 0 0) (getD row 1 0) (getD row 2 0) (getD row 3 0) (getD row 4 0) (getD row 5 0))
-
-abbrev pub rowTests : ℕ → ℕ → ℕ → ℕ → ℕ → ℕ → ℕ → ℕ → ℕ → List Bool
-rowTests type a b c d name child mult mask =
-    ltb type typeLimit
-    ∷ pathPasses a b c d
-    ∷ leb name nameLimit
-    ∷ ltb child typeLimit
-    ∷ leb mult 2
-    ∷ ltb 0 mask
-    ∷ ltb mask maskLimit
-    ∷ []
-
-unfoldable pub rowPasses : List ℕ → Bool
-rowPasses row =
-    every
-    (rowTests (getD row 0 0) (getD row 1 0) (getD row 2 0) (getD row 3 0) (getD row 4 0) (getD row 5 0) (getD row 6 0) (getD row 7 0) (getD row 8 0))
-
--- a file of at least this number, and its version
-abbrev pub fileTests : ℕ → ℕ → ℕ → List Bool
-fileTests low file version = leb low file ∷ ltb file fileLimit ∷ ltb version versionLimit ∷ []
-
--- in order: each file's number is more than the one before
-unfoldable pub filesPass : ℕ → List (List ℕ) → Bool
-filesPass low [] = true
-filesPass low (row ∷ rows) = every (fileTests low (getD row 0 0) (getD row 1 0)) && filesPass (getD row 0 0 + 1) rows
-
--- the first n files pass, and the cells behind them are zero
-unfoldable pub fileAreaPasses : ℕ → List ℕ → Bool
-fileAreaPasses n area = filesPass 0 (rowsIn 2 n area) && allOf isZero (drop (n * 2) area)
-
--- the size, the counts of types, groups, rows and files, and their rows
+-- the size, and the areas of files, types, groups and rows, each with its count; the files ascend
 abbrev pub schemaTests : List ℕ → List Bool
 schemaTests xs =
     eqb (length xs) schemaSize
-    ∷ leb (getD xs 0 0) typeLimit
-    ∷ leb (getD xs 1 0) groupLimit
-    ∷ leb (getD xs 2 0) rowLimit
-    ∷ leb (getD xs 3 0) fileLimit
-    ∷ areaPasses typePasses 3 (getD xs 0 0) (between typesAt groupsAt xs)
-    ∷ areaPasses groupPasses 6 (getD xs 1 0) (between groupsAt rowsAt xs)
-    ∷ areaPasses rowPasses 9 (getD xs 2 0) (between rowsAt filesAt xs)
-    ∷ fileAreaPasses (getD xs 3 0) (between filesAt schemaSize xs)
+    ∷ areaPasses Files (getD xs 3 0) (between filesAt schemaSize xs)
+    ∷ areaPasses Types (getD xs 0 0) (between typesAt groupsAt xs)
+    ∷ areaPasses Groups (getD xs 1 0) (between groupsAt rowsAt xs)
+    ∷ areaPasses SubElements (getD xs 2 0) (between rowsAt filesAt xs)
+    ∷ filesAscend (rowsIn (areaWidth Files) (getD xs 3 0) (between filesAt schemaSize xs))
     ∷ []
 
 unfoldable pub isSchemaTable : List ℕ → Bool

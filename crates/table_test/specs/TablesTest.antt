@@ -14,7 +14,7 @@ use Rattle.tables.specs.ModelTable.{countOf, modelOf, GoodModel}
 use Rattle.tables.specs.ElementsTable.{elementsOf, GoodElements}
 use Rattle.tables.specs.SchemaTable.{schemaOf}
 use Rattle.table_test.specs.ModelTest.{isModelTable, TestedModel}
-use Rattle.table_test.specs.RowsTest.{every}
+use Rattle.table_test.specs.RowTests.{every}
 use Rattle.table_test.specs.LogTest.{isLogTable, TestedLog}
 use Rattle.table_test.specs.ElementsTest.{isElementsTable, TestedElements}
 use Rattle.table_test.specs.SchemaTest.{isSchemaTable, TestedSchema}
@@ -37,8 +37,8 @@ tablesTests size schema elements model log =
     isSchemaTable schema
     ∷ isElementsTable (getD schema 0 0) size elements
     ∷ isModelTable (getD elements 1 0) model
-    ∷ isLogTable (getD elements 0 0) log
     ∷ eqb (getD model 0 0) (getD elements 0 0)
+    ∷ isLogTable (getD elements 0 0) log
     ∷ depthsPass elements model
     ∷ []
 

@@ -1,6 +1,9 @@
 // The test of a model table: the part of refusal 0 that needs this table and the number of texts alone.
 
 use crate::scan;
+use tables::file_set::SET_WIDTH;
+use tables::limits::ELEMENT_LIMIT;
+use tables::limits::ITEM_LIMIT;
 use tables::model;
 use tables::numbers::Element;
 ghost use mathlib.Core.Path.{_≡_};
@@ -12,14 +15,6 @@ ghost use Rattle.tables.specs.Limits.{elementLimit, itemLimit};
 ghost use Rattle.tables.specs.Lists.{allOf};
 ghost use Rattle.tables.specs.ModelTable.{cellItem, modelOf, GoodModel};
 ghost use Rattle.table_test.specs.ModelTest.{rising, cellInRange, onceIn, modelShape, modelUnused, modelUsed, modelOnce, isModelTable, Shaped};
-
-const SETS: usize = 1025;
-
-const STARTS: usize = 2049;
-
-const ITEMS: usize = 3074;
-
-const ELEMENTS: u64 = 1024;
 
 // None is less than the one before it, and the last is within the items.
 fn rises(s: &[u64]) -> bool
@@ -35,16 +30,16 @@ fn rises(s: &[u64]) -> bool
         last = x;
         j += 1;
     }
-    last <= 2048
+    last <= ITEM_LIMIT as u64
 }
 
 fn cell_in_range(c: u64, n: u64, texts: u64) -> bool
     ensures { λ r. ⌜ r ≡ cellInRange n texts c ⌝ }
 {
-    if c < ELEMENTS {
+    if c < model::TEXT_CELLS_AT {
         return c < n;
     }
-    c - ELEMENTS < texts
+    c - model::TEXT_CELLS_AT < texts
 }
 
 fn cells_in_range(s: &[u64], n: u64, texts: u64) -> bool
@@ -71,7 +66,7 @@ fn once(list: &[u64], marks: &mut [u64], mark: u64) -> bool
     while 0 < j {
         j -= 1;
         let c = list[j];
-        if c < ELEMENTS {
+        if c < model::TEXT_CELLS_AT {
             let k = c as usize;
             if marks[k] == mark {
                 return false;
@@ -90,13 +85,13 @@ fn shape(t: &[u64]) -> bool
         return false;
     }
     let n = t[0];
-    if 1024 < n {
+    if (ELEMENT_LIMIT as u64) < n {
         return false;
     }
-    if t[STARTS] != 0 {
+    if t[model::STARTS_AT] != 0 {
         return false;
     }
-    let a = STARTS + 1;
+    let a = model::STARTS_AT + 1;
     let b = a + n as usize;
     rises(&t[a..b])
 }
@@ -107,20 +102,20 @@ fn unused(t: &[u64]) -> bool
     ensures { λ r. ⌜ r ≡ modelUnused (now (t .entry)) ⌝ }
 {
     let n = t[0] as usize;
-    let a = 1 + n;
-    if !scan::all_zero(&t[a..SETS]) {
+    let a = model::PARENTS_AT + n;
+    if !scan::all_zero(&t[a..model::STARTS_AT]) {
         return false;
     }
-    let b = SETS + n;
-    if !scan::all_zero(&t[b..STARTS]) {
+    let b = model::STARTS_AT + 1 + n;
+    if !scan::all_zero(&t[b..model::ITEMS_AT]) {
         return false;
     }
-    let c = STARTS + 1 + n;
-    if !scan::all_zero(&t[c..ITEMS]) {
+    let i = model::STARTS_AT + n;
+    let c = model::ITEMS_AT + t[i] as usize;
+    if !scan::all_zero(&t[c..model::SETS_AT]) {
         return false;
     }
-    let i = STARTS + n;
-    let d = ITEMS + t[i] as usize;
+    let d = model::SETS_AT + n * SET_WIDTH;
     scan::all_zero(&t[d..model::MODEL_SIZE])
 }
 
@@ -130,13 +125,13 @@ fn used(t: &[u64], texts: u64) -> bool
     ensures { λ r. ⌜ r ≡ modelUsed texts (now (t .entry)) ⌝ }
 {
     let n = t[0];
-    let a = 1 + n as usize;
-    if !scan::all_at_most(&t[1..a], n) {
+    let a = model::PARENTS_AT + n as usize;
+    if !scan::all_at_most(&t[model::PARENTS_AT..a], n) {
         return false;
     }
-    let i = STARTS + n as usize;
-    let b = ITEMS + t[i] as usize;
-    cells_in_range(&t[ITEMS..b], n, texts)
+    let i = model::STARTS_AT + n as usize;
+    let b = model::ITEMS_AT + t[i] as usize;
+    cells_in_range(&t[model::ITEMS_AT..b], n, texts)
 }
 
 // No element twice in its list.
@@ -145,11 +140,11 @@ fn lists_once(t: &[u64]) -> bool
     ensures { λ r. ⌜ r ≡ modelOnce (modelOf (now (t .entry))) ⌝ }
 {
     let n = model::count(t);
-    let mut marks = [0u64; 1024];
+    let mut marks = [0u64; ELEMENT_LIMIT];
     let mut e: usize = 0;
     while e < n {
-        let i = STARTS + e;
-        let a = ITEMS + t[i] as usize;
+        let i = model::STARTS_AT + e;
+        let a = model::ITEMS_AT + t[i] as usize;
         let b = a + model::list_length(t, Element(e));
         if !once(&t[a..b], &mut marks, e as u64 + 1) {
             return false;

@@ -86,14 +86,8 @@ pub fn tables_pass(
     if !is_model_table(model, elements[1]) {
         return false;
     }
-    if !is_log_table(log, elements[0]) {
-        return false;
-    }
     if model[0] != elements[0] {
         return false;
     }
-    if !depths_pass(elements, model) {
-        return false;
-    }
-    true
+    is_log_table(log, elements[0]) & depths_pass(elements, model)
 }

@@ -1,9 +1,12 @@
+pub mod Cases
 pub mod Cells
 pub mod Lists
 pub mod Starts
 pub mod Model
 pub mod ModelTable
 pub mod FileSets
+pub mod SetCells
+pub mod Scans
 pub mod Paths
 pub mod Texts
 pub mod LogTable

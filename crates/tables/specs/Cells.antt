@@ -18,6 +18,10 @@ module _ {A : Type 0} where
   Each P [] = Unit {0}
   Each P (x ∷ xs) = P x × Each P xs
 
+  -- the entries from place a up to place b
+  abbrev pub between : ℕ → ℕ → List A → List A
+  between a b xs = take (b - a) (drop a xs)
+
   -- the cells of each row, one row behind the other
   unfoldable pub rowCells : (A → List ℕ) → List A → List ℕ
   rowCells enc [] = []

@@ -2,33 +2,46 @@
 -- file and root. Unused cells are zero. Assumes nothing.
 use mathlib.Core.Path.{_≡_}
 use mathlib.Core.List.{List, [], _∷_, _++_, map}
-use Prim.Native.Nat.{ℕ, _≤_, _<_}
+use Prim.Native.Nat.{ℕ, _+_, _*_, _≤_, _<_}
 use lib.ListN.{length, getD, drop}
 use Rattle.tables.specs.Cells.{cells, rowsOf, Each}
-use Rattle.tables.specs.Limits.{elementLimit, itemLimit, fileLimit}
+use Rattle.tables.specs.Limits.{elementLimit, itemLimit, fileLimit, stringLimit}
 use Rattle.tables.specs.Records.{Element, Name, TypeNumber, Place, Text, enumNumber, string, wholeNumber, float, Tree, Elements}
 use Rattle.tables.specs.Texts.{textKind, textValue, textFrom}
 
 -- ---- sizes, and where the areas begin
 
-abbrev pub elementsSize : ℕ
-elementsSize = 7299
+-- cells of one row of each area
+abbrev pub elementWidth : ℕ
+elementWidth = 3
+
+abbrev pub textWidth : ℕ
+textWidth = 2
+
+abbrev pub treeWidth : ℕ
+treeWidth = 2
+
+-- cells of the areas
+abbrev pub elementsArea : ℕ
+elementsArea = elementLimit * elementWidth
+
+abbrev pub textsArea : ℕ
+textsArea = itemLimit * textWidth
+
+abbrev pub treesArea : ℕ
+treesArea = fileLimit * treeWidth
 
 abbrev pub elementsAt : ℕ
 elementsAt = 3
 
 abbrev pub textsAt : ℕ
-textsAt = 3075
+textsAt = elementsAt + elementsArea
 
 abbrev pub treesAt : ℕ
-treesAt = 7171
+treesAt = textsAt + textsArea
 
--- cells of the areas
-abbrev pub elementsArea : ℕ
-elementsArea = 3072
-
-abbrev pub textsArea : ℕ
-textsArea = 4096
+abbrev pub elementsSize : ℕ
+elementsSize = treesAt + treesArea
 
 -- ---- rows
 
@@ -69,25 +82,25 @@ noTree = record { file = 0; root = 0 }
 unfoldable pub encodeElements : Elements → List ℕ
 encodeElements es =
     length (es .names) ∷ length (es .texts) ∷ length (es .trees)
-    ∷ (cells 3 elementLimit elementCells (elementRows (es .names) (es .types) (es .depths))
-    ++ (cells 2 itemLimit textCells (es .texts) ++ cells 2 fileLimit treeCells (es .trees)))
+    ∷ (cells elementWidth elementLimit elementCells (elementRows (es .names) (es .types) (es .depths))
+    ++ (cells textWidth itemLimit textCells (es .texts) ++ cells treeWidth fileLimit treeCells (es .trees)))
 
 unfoldable pub elementsOf : List ℕ → Elements
 elementsOf xs =
     let area = drop elementsAt xs in
-    let rows = rowsOf 3 (getD xs 0 0) cellsElement area in
+    let rows = rowsOf elementWidth (getD xs 0 0) cellsElement area in
     record {
       names = map (λ (r : ElementRow). r .name) rows;
       types = map (λ (r : ElementRow). r .type) rows;
       depths = map (λ (r : ElementRow). r .depth) rows;
-      texts = rowsOf 2 (getD xs 1 0) cellsText (drop elementsArea area);
-      trees = rowsOf 2 (getD xs 2 0) cellsTree (drop textsArea (drop elementsArea area));
+      texts = rowsOf textWidth (getD xs 1 0) cellsText (drop elementsArea area);
+      trees = rowsOf treeWidth (getD xs 2 0) cellsTree (drop textsArea (drop elementsArea area));
     }
 
 -- a string's length leaves room for its place
 abbrev pub TextFits : Text → Type 0
 TextFits (enumNumber n) = Unit {0}
-TextFits (string p) = p .size < 65536
+TextFits (string p) = p .size < stringLimit
 TextFits (wholeNumber n) = Unit {0}
 TextFits (float b) = Unit {0}
 

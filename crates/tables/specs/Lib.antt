@@ -2,6 +2,7 @@ pub mod Lists
 pub mod Limits
 pub mod Records
 pub mod FileSets
+pub mod SetCells
 pub mod Bytes
 pub mod Paths
 pub mod Texts

@@ -1,5 +1,5 @@
--- The limits of document 01, "What each operation refuses": the largest count of each thing, each written once.
--- Assumes nothing.
+-- The limits of document 01, "What each operation refuses": the largest count of each thing and the largest number of each field, each
+-- written once. Assumes nothing.
 use Prim.Native.Nat.{ℕ}
 
 -- bytes of a deck
@@ -17,11 +17,15 @@ rowLimit = 512
 abbrev pub groupLimit : ℕ
 groupLimit = 128
 
--- files are numbered from 0 to 63
+-- parts of a path
+abbrev pub pathLimit : ℕ
+pathLimit = 4
+
+-- files are numbered from 0, below this
 abbrev pub fileLimit : ℕ
 fileLimit = 64
 
--- versions are numbered from 0 to 31
+-- versions are numbered from 0, below this
 abbrev pub versionLimit : ℕ
 versionLimit = 32
 
@@ -39,3 +43,23 @@ itemLimit = 2048
 -- log entries
 abbrev pub logLimit : ℕ
 logLimit = 1024
+
+-- the largest name
+abbrev pub nameLimit : ℕ
+nameLimit = 4095
+
+-- the largest enum number
+abbrev pub enumLimit : ℕ
+enumLimit = 65535
+
+-- strings are shorter than this
+abbrev pub stringLimit : ℕ
+stringLimit = 65536
+
+-- the largest part of a path
+abbrev pub partLimit : ℕ
+partLimit = 255
+
+-- masks are below this: a bit for each version
+abbrev pub maskLimit : ℕ
+maskLimit = 4294967296

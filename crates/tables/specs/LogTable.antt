@@ -1,46 +1,56 @@
 -- The log's table: the count, then the entries, oldest first, then zeros. Assumes nothing.
 use mathlib.Core.Path.{_≡_}
 use mathlib.Core.List.{List, [], _∷_, _++_, reverse}
-use Prim.Native.Nat.{ℕ, zero, suc, _-_, _≤_, _<_}
+use Prim.Native.Nat.{ℕ, zero, suc, _+_, _*_, _-_, _≤_, _<_}
 use lib.ListN.{length, getD, drop}
 use Rattle.tables.specs.Cells.{cells, rowsOf, Each}
+use Rattle.tables.specs.FileSets.{noSet}
 use Rattle.tables.specs.Limits.{elementLimit, fileLimit, logLimit}
 use Rattle.tables.specs.ModelTable.{parentIs, parentCell, cellParent, ParentBelow}
-use Rattle.tables.specs.Records.{Entry, import, restriction, extension, Log}
+use Rattle.tables.specs.Records.{FileSet, Entry, import, restriction, extension, Log}
+use Rattle.tables.specs.SetCells.{setIs, setWidth, setCells, cellsSet}
 use Rattle.tables.specs.declared.log.Entry as program
 use Rattle.tables.specs.declared.log.Entry.the-variants.{Import, Restriction, Extension}
 
--- cells of the table
-abbrev pub logSize : ℕ
-logSize = 5121
+-- where the old set begins in an entry
+abbrev pub oldSetAt : ℕ
+oldSetAt = 4
 
 -- cells of an entry
 abbrev pub entryWidth : ℕ
-entryWidth = 5
+entryWidth = oldSetAt + setWidth
+
+-- where the entries begin
+abbrev pub entriesAt : ℕ
+entriesAt = 1
+
+-- cells of the table
+abbrev pub logSize : ℕ
+logSize = entriesAt + logLimit * entryWidth
 
 -- ---- the program's enum as the records have it
 
 abbrev pub entryIs : program.Entry → Entry
-entryIs (Import e p oldParent oldSet) = import (e .0) (p .0) (parentIs oldParent) (oldSet .0)
-entryIs (Restriction e oldSet) = restriction (e .0) (oldSet .0)
+entryIs (Import e p oldParent oldSet) = import (e .0) (p .0) (parentIs oldParent) (setIs oldSet)
+entryIs (Restriction e oldSet) = restriction (e .0) (setIs oldSet)
 entryIs (Extension e f) = extension (e .0) (f .0)
 
 -- ---- an entry's cells
 
--- kind (0 import, 1 restriction, 2 extension), element, new parent, old parent, old set or file
+-- kind (0 import, 1 restriction, 2 extension), element, new parent or file, old parent, old set
 unfoldable pub entryCells : Entry → List ℕ
-entryCells (import e p oldParent oldSet) = 0 ∷ e ∷ p ∷ parentCell oldParent ∷ oldSet ∷ []
-entryCells (restriction e oldSet) = 1 ∷ e ∷ 0 ∷ 0 ∷ oldSet ∷ []
-entryCells (extension e f) = 2 ∷ e ∷ 0 ∷ 0 ∷ f ∷ []
+entryCells (import e p oldParent oldSet) = 0 ∷ e ∷ p ∷ parentCell oldParent ∷ setCells oldSet
+entryCells (restriction e oldSet) = 1 ∷ e ∷ 0 ∷ 0 ∷ setCells oldSet
+entryCells (extension e f) = 2 ∷ e ∷ f ∷ 0 ∷ setCells noSet
 
 -- the entry of a kind, with these parts
-unfoldable pub entryFrom : ℕ → ℕ → ℕ → ℕ → ℕ → Entry
+unfoldable pub entryFrom : ℕ → ℕ → ℕ → ℕ → FileSet → Entry
 entryFrom zero e p o s = import e p (cellParent o) s
 entryFrom (suc zero) e p o s = restriction e s
-entryFrom (suc (suc k)) e p o s = extension e s
+entryFrom (suc (suc k)) e p o s = extension e p
 
 unfoldable pub entryOf : List ℕ → Entry
-entryOf xs = entryFrom (getD xs 0 0) (getD xs 1 0) (getD xs 2 0) (getD xs 3 0) (getD xs 4 0)
+entryOf xs = entryFrom (getD xs 0 0) (getD xs 1 0) (getD xs 2 0) (getD xs 3 0) (cellsSet (drop oldSetAt xs))
 
 -- ---- the table
 
@@ -48,7 +58,7 @@ unfoldable pub encodeLog : Log → List ℕ
 encodeLog l = length l ∷ cells entryWidth logLimit entryCells (reverse l)
 
 unfoldable pub logOf : List ℕ → Log
-logOf xs = reverse (rowsOf entryWidth (getD xs 0 0) entryOf (drop 1 xs))
+logOf xs = reverse (rowsOf entryWidth (getD xs 0 0) entryOf (drop entriesAt xs))
 
 -- the numbers of an entry are those of elements and files that a table has room for
 abbrev pub EntryFits : Entry → Type 0

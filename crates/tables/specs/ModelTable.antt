@@ -1,15 +1,16 @@
--- The model as a table: the count of elements; each element's parent + 1, 0 for none; each element's set; where each element's list starts
--- among the items, and where the last one ends; the items of all lists, in the order of their owners. Unused cells are zero. Assumes nothing.
+-- The model as a table: the count of elements; each element's parent + 1, 0 for none; where each element's list starts among the items, and
+-- where the last one ends; the items of all lists, in the order of their owners; each element's set. Unused cells are zero. Assumes nothing.
 use mathlib.Core.Bool.{Bool, true, false}
 use mathlib.Core.List.{List, [], _∷_, _++_, map}
 use mathlib.Core.Option.{Option, none, some}
 use mathlib.Core.Path.{_≡_}
-use Prim.Native.Nat.{ℕ, zero, suc, _+_, _-_, _≤_, _<_}
+use Prim.Native.Nat.{ℕ, zero, suc, _+_, _-_, _*_, _≤_, _<_}
 use lib.Dec.{ltb}
 use lib.ListN.{length, getD, take, drop}
-use Rattle.tables.specs.Cells.{padded, Each}
+use Rattle.tables.specs.Cells.{padded, cells, rowsOf, Each}
 use Rattle.tables.specs.Limits.{elementLimit, itemLimit}
 use Rattle.tables.specs.Records.{Item, child, text, Model, contentItems, listOf}
+use Rattle.tables.specs.SetCells.{setWidth, setCells, cellsSet}
 use Rattle.tables.specs.declared.model.Parent.{Parent}
 use Rattle.tables.specs.declared.model.Parent.the-variants.{Of, Missing}
 use Rattle.tables.specs.declared.model.Item as program
@@ -20,17 +21,17 @@ use Rattle.tables.specs.declared.model.Item.the-variants.{Child, Text}
 abbrev pub parentsAt : ℕ
 parentsAt = 1
 
-abbrev pub setsAt : ℕ
-setsAt = 1025
-
 abbrev pub startsAt : ℕ
-startsAt = 2049
+startsAt = parentsAt + elementLimit
 
 abbrev pub itemsAt : ℕ
-itemsAt = 3074
+itemsAt = startsAt + suc elementLimit
+
+abbrev pub setsAt : ℕ
+setsAt = itemsAt + itemLimit
 
 abbrev pub modelSize : ℕ
-modelSize = 5122
+modelSize = setsAt + elementLimit * setWidth
 
 -- ---- the program's enums as the records have them
 
@@ -54,10 +55,10 @@ cellParent (suc p) = some p
 
 unfoldable pub itemCell : Item → ℕ
 itemCell (child e) = e
-itemCell (text t) = 1024 + t
+itemCell (text t) = elementLimit + t
 
 unfoldable pub cellItem : ℕ → Item
-cellItem c = elim (ltb c 1024) [ true ↦ child c | false ↦ text (c - 1024) ]
+cellItem c = elim (ltb c elementLimit) [ true ↦ child c | false ↦ text (c - elementLimit) ]
 
 -- ---- starts
 
@@ -100,14 +101,14 @@ unfoldable pub encodeModel : Model → List ℕ
 encodeModel m =
     countOf m
     ∷ (padded elementLimit (map parentCell (m .parents))
-    ++ (padded elementLimit (m .sets)
-    ++ (padded (suc elementLimit) (sums 0 (map length (m .lists))) ++ padded itemLimit (map itemCell (flat (m .lists))))))
+    ++ (padded (suc elementLimit) (sums 0 (map length (m .lists)))
+    ++ (padded itemLimit (map itemCell (flat (m .lists))) ++ cells setWidth elementLimit setCells (m .sets))))
 
 unfoldable pub modelOf : List ℕ → Model
 modelOf xs =
     record {
       parents = map cellParent (take (getD xs 0 0) (drop parentsAt xs));
-      sets = take (getD xs 0 0) (drop setsAt xs);
+      sets = rowsOf setWidth (getD xs 0 0) cellsSet (drop setsAt xs);
       lists = cut (gapsOf (take (suc (getD xs 0 0)) (drop startsAt xs))) (map cellItem (drop itemsAt xs));
     }
 

@@ -39,9 +39,15 @@ SchemaPath = List ℕ
 pub data Mode : Type 0 where
   sequence choice bag mixed characters : Mode
 
+abbrev pub modes : List Mode
+modes = sequence ∷ choice ∷ bag ∷ mixed ∷ characters ∷ []
+
 -- at most one, one, any
 pub data Mult : Type 0 where
   atMostOne one any : Mult
+
+abbrev pub mults : List Mult
+mults = atMostOne ∷ one ∷ any ∷ []
 
 -- T row
 pub record TypeRow : Type 0 where

@@ -3,40 +3,56 @@
 use mathlib.Core.Bool.{Bool, true, false, not}
 use mathlib.Core.Path.{_≡_}
 use mathlib.Core.List.{List, [], _∷_, _++_}
-use Prim.Native.Nat.{ℕ, _≤_}
+use Prim.Native.Nat.{ℕ, _+_, _*_, _≤_}
 use lib.Dec.{eqb}
 use lib.ListN.{length, getD, drop}
 use Rattle.tables.specs.Cells.{cells, rowsOf, Each}
-use Rattle.tables.specs.Limits.{typeLimit, groupLimit, rowLimit, fileLimit}
+use Rattle.tables.specs.Limits.{typeLimit, groupLimit, rowLimit, fileLimit, pathLimit}
 use Rattle.tables.specs.Paths.{front, pathCells}
-use Rattle.tables.specs.Records.{SchemaPath, Mode, sequence, choice, bag, mixed, characters, Mult, atMostOne, one, any, TypeRow, Group, SubElement, File, Schema}
+use Rattle.tables.specs.Records.{SchemaPath, Mode, sequence, choice, bag, mixed, characters, modes, Mult, atMostOne, one, any, mults, TypeRow, Group, SubElement, File, Schema}
 
 -- ---- sizes, and where the areas begin
 
-abbrev pub schemaSize : ℕ
-schemaSize = 5892
+-- cells of one row of each area
+abbrev pub typeWidth : ℕ
+typeWidth = 3
+
+abbrev pub groupWidth : ℕ
+groupWidth = 6
+
+abbrev pub rowWidth : ℕ
+rowWidth = 9
+
+abbrev pub fileWidth : ℕ
+fileWidth = 2
+
+-- cells of the areas
+abbrev pub typesArea : ℕ
+typesArea = typeLimit * typeWidth
+
+abbrev pub groupsArea : ℕ
+groupsArea = groupLimit * groupWidth
+
+abbrev pub rowsArea : ℕ
+rowsArea = rowLimit * rowWidth
+
+abbrev pub filesArea : ℕ
+filesArea = fileLimit * fileWidth
 
 abbrev pub typesAt : ℕ
 typesAt = 4
 
 abbrev pub groupsAt : ℕ
-groupsAt = 388
+groupsAt = typesAt + typesArea
 
 abbrev pub rowsAt : ℕ
-rowsAt = 1156
+rowsAt = groupsAt + groupsArea
 
 abbrev pub filesAt : ℕ
-filesAt = 5764
+filesAt = rowsAt + rowsArea
 
--- cells of the areas
-abbrev pub typesArea : ℕ
-typesArea = 384
-
-abbrev pub groupsArea : ℕ
-groupsArea = 768
-
-abbrev pub rowsArea : ℕ
-rowsArea = 4608
+abbrev pub schemaSize : ℕ
+schemaSize = filesAt + filesArea
 
 -- ---- numbers of modes and mults
 
@@ -48,7 +64,7 @@ modeNumber mixed = 3
 modeNumber characters = 4
 
 abbrev pub modeFrom : ℕ → Mode
-modeFrom n = getD (sequence ∷ choice ∷ bag ∷ mixed ∷ characters ∷ []) n characters
+modeFrom n = getD modes n characters
 
 unfoldable pub multNumber : Mult → ℕ
 multNumber atMostOne = 0
@@ -56,7 +72,7 @@ multNumber one = 1
 multNumber any = 2
 
 abbrev pub multFrom : ℕ → Mult
-multFrom n = getD (atMostOne ∷ one ∷ any ∷ []) n any
+multFrom n = getD mults n any
 
 unfoldable pub boolNumber : Bool → ℕ
 boolNumber false = 0
@@ -66,10 +82,6 @@ abbrev pub boolFrom : ℕ → Bool
 boolFrom n = not (eqb n 0)
 
 -- ---- rows
-
--- the longest path
-abbrev pub pathLimit : ℕ
-pathLimit = 4
 
 -- one of the four cells of a path
 abbrev pub partCell : SchemaPath → ℕ → ℕ
@@ -129,9 +141,9 @@ noFile = record { file = 0; version = 0 }
 unfoldable pub encodeSchema : Schema → List ℕ
 encodeSchema sc =
     length (sc .types) ∷ length (sc .groups) ∷ length (sc .subElements) ∷ length (sc .files)
-    ∷ (cells 3 typeLimit typeCells (sc .types)
-    ++ (cells 6 groupLimit groupCells (sc .groups)
-    ++ (cells 9 rowLimit subElementCells (sc .subElements) ++ cells 2 fileLimit fileCells (sc .files))))
+    ∷ (cells typeWidth typeLimit typeCells (sc .types)
+    ++ (cells groupWidth groupLimit groupCells (sc .groups)
+    ++ (cells rowWidth rowLimit subElementCells (sc .subElements) ++ cells fileWidth fileLimit fileCells (sc .files))))
 
 unfoldable pub schemaOf : List ℕ → Schema
 schemaOf xs =
@@ -139,10 +151,10 @@ schemaOf xs =
     let groupArea = drop typesArea area in
     let rowArea = drop groupsArea groupArea in
     record {
-      types = rowsOf 3 (getD xs 0 0) cellsType area;
-      groups = rowsOf 6 (getD xs 1 0) cellsGroup groupArea;
-      subElements = rowsOf 9 (getD xs 2 0) cellsSubElement rowArea;
-      files = rowsOf 2 (getD xs 3 0) cellsFile (drop rowsArea rowArea);
+      types = rowsOf typeWidth (getD xs 0 0) cellsType area;
+      groups = rowsOf groupWidth (getD xs 1 0) cellsGroup groupArea;
+      subElements = rowsOf rowWidth (getD xs 2 0) cellsSubElement rowArea;
+      files = rowsOf fileWidth (getD xs 3 0) cellsFile (drop rowsArea rowArea);
     }
 
 abbrev pub GroupFits : Group → Type 0

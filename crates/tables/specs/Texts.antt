@@ -8,6 +8,7 @@ use lib.ListN.{length, take, drop}
 use Rattle.tables.specs.declared.text.Place as code
 use Rattle.tables.specs.declared.text.Text as codeText
 use Rattle.tables.specs.declared.text.Text.the-variants.{Number, Str, Whole, Float as FloatValue}
+use Rattle.tables.specs.Limits.{stringLimit}
 use Rattle.tables.specs.Lists.{sameList}
 use Rattle.tables.specs.Records.{Place, Text, enumNumber, string, wholeNumber, float}
 
@@ -41,7 +42,7 @@ sameText deck (float a) (string q) = false
 sameText deck (float a) (wholeNumber b) = false
 sameText deck (float a) (float b) = sameFloat a b
 
--- ---- as a table holds them: kind and value; a string is its place * 65536 + its length
+-- ---- as a table holds them: kind and value; a string is its place * stringLimit + its length
 
 unfoldable pub textKind : Text → ℕ
 textKind (enumNumber n) = 0
@@ -51,14 +52,14 @@ textKind (float b) = 3
 
 unfoldable pub textValue : Text → ℕ
 textValue (enumNumber n) = n
-textValue (string p) = p .start * 65536 + p .size
+textValue (string p) = p .start * stringLimit + p .size
 textValue (wholeNumber n) = n
 textValue (float b) = b
 
 unfoldable pub textFrom : ℕ → ℕ → Text
 textFrom kind v =
     cond (eqb kind 0) (enumNumber v)
-    (cond (eqb kind 1) (string (record { start = v / 65536; size = v % 65536 }))
+    (cond (eqb kind 1) (string (record { start = v / stringLimit; size = v % stringLimit }))
     (cond (eqb kind 2) (wholeNumber v) (float v)))
 
 -- ---- as the code holds them: a float by its value

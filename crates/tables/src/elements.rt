@@ -1,8 +1,11 @@
 // The elements table: the counts of elements, texts and trees; each element's name, type and depth; each text's kind (0 an enum number, 1 a
-// string, 2 a whole number, 3 a float's bits) and value (a string's is its place * 65536 + its length); each tree's file and root; zeros.
+// string, 2 a whole number, 3 a float's bits) and value (a string's is its place * STRING_LIMIT + its length); each tree's file and root; zeros.
 
 use crate::cells::put2;
 use crate::cells::put3;
+use crate::limits::ELEMENT_LIMIT;
+use crate::limits::FILE_LIMIT;
+use crate::limits::ITEM_LIMIT;
 use crate::numbers::Element;
 use crate::numbers::FileNumber;
 use crate::numbers::Name;
@@ -14,23 +17,23 @@ ghost use lib.ListN.{length, getD};
 ghost use Rattle.tables.specs.Limits.{elementLimit, itemLimit, fileLimit};
 ghost use Rattle.tables.specs.Records.{enumNumber, addElement, addText, addTree};
 ghost use Rattle.tables.specs.Texts.{textKind, textValue, textFrom};
-ghost use Rattle.tables.specs.ElementsTable.{elementsOf, GoodElements, HoldsElements, textCells, treeCells, noTree};
+ghost use Rattle.tables.specs.ElementsTable.{elementsOf, GoodElements, HoldsElements, textCells, treeCells, noTree, elementWidth, textWidth, treeWidth};
 
-// Cells of the table.
-pub const ELEMENTS_SIZE: usize = 7299;
+// The cells of one row of each area.
+pub const ELEMENT_WIDTH: usize = 3;
 
-// Where each area begins, and the cells of one row.
-const ELEMENTS: usize = 3;
+pub const TEXT_WIDTH: usize = 2;
 
-const ELEMENT_CELLS: usize = 3;
+pub const TREE_WIDTH: usize = 2;
 
-const TEXTS: usize = 3075;
+// Where each area begins, and the table's size.
+pub const ELEMENTS_AT: usize = 3;
 
-const TEXT_CELLS: usize = 2;
+pub const TEXTS_AT: usize = ELEMENTS_AT + ELEMENT_LIMIT * ELEMENT_WIDTH;
 
-const TREES: usize = 7171;
+pub const TREES_AT: usize = TEXTS_AT + ITEM_LIMIT * TEXT_WIDTH;
 
-const TREE_CELLS: usize = 2;
+pub const ELEMENTS_SIZE: usize = TREES_AT + FILE_LIMIT as usize * TREE_WIDTH;
 
 pub fn element_count(elements: &[u64]) -> usize
     requires { ⌜ GoodElements (now elements) ⌝ }
@@ -57,10 +60,10 @@ pub fn tree_count(elements: &[u64]) -> usize
 fn element_cell(elements: &[u64], e: usize, field: usize) -> u64
     requires { ⌜ GoodElements (now elements) ⌝ }
     requires { ⌜ e < length (elementsOf (now elements) .names) ⌝ }
-    requires { ⌜ field < 3 ⌝ }
+    requires { ⌜ field < elementWidth ⌝ }
     ensures { λ r. ⌜ r ≡ getD (getD (elementsOf (now (elements .entry)) .names) e 0 ∷ getD (elementsOf (now (elements .entry)) .types) e 0 ∷ getD (elementsOf (now (elements .entry)) .depths) e 0 ∷ []) field 0 ⌝ }
 {
-    elements[ELEMENTS + (e * ELEMENT_CELLS + field)]
+    elements[ELEMENTS_AT + (e * ELEMENT_WIDTH + field)]
 }
 
 pub fn element_name(elements: &[u64], e: Element) -> Name
@@ -91,10 +94,10 @@ pub fn element_depth(elements: &[u64], e: Element) -> u64
 fn text_cell(elements: &[u64], t: usize, field: usize) -> u64
     requires { ⌜ GoodElements (now elements) ⌝ }
     requires { ⌜ t < length (elementsOf (now elements) .texts) ⌝ }
-    requires { ⌜ field < 2 ⌝ }
+    requires { ⌜ field < textWidth ⌝ }
     ensures { λ r. ⌜ r ≡ getD (textCells (getD (elementsOf (now (elements .entry)) .texts) t (enumNumber 0))) field 0 ⌝ }
 {
-    elements[TEXTS + (t * TEXT_CELLS + field)]
+    elements[TEXTS_AT + (t * TEXT_WIDTH + field)]
 }
 
 pub fn text_kind(elements: &[u64], t: usize) -> u64
@@ -117,10 +120,10 @@ pub fn text_value(elements: &[u64], t: usize) -> u64
 fn tree_cell(elements: &[u64], t: usize, field: usize) -> u64
     requires { ⌜ GoodElements (now elements) ⌝ }
     requires { ⌜ t < length (elementsOf (now elements) .trees) ⌝ }
-    requires { ⌜ field < 2 ⌝ }
+    requires { ⌜ field < treeWidth ⌝ }
     ensures { λ r. ⌜ r ≡ getD (treeCells (getD (elementsOf (now (elements .entry)) .trees) t noTree)) field 0 ⌝ }
 {
-    elements[TREES + (t * TREE_CELLS + field)]
+    elements[TREES_AT + (t * TREE_WIDTH + field)]
 }
 
 pub fn tree_file(elements: &[u64], t: usize) -> FileNumber
@@ -147,7 +150,7 @@ pub fn add_element_row(elements: &mut [u64], n: Name, t: TypeNumber, depth: u64)
     let m = element_count(elements);
     put3(
         elements,
-        ELEMENTS + m * ELEMENT_CELLS,
+        ELEMENTS_AT + m * ELEMENT_WIDTH,
         n.0,
         t.0 as u64,
         depth,
@@ -162,7 +165,7 @@ pub fn add_text(elements: &mut [u64], kind: u64, value: u64)
     ensures { λ _. ⌜ HoldsElements (now (elements .exit)) (addText (elementsOf (now (elements .entry))) (textFrom kind value)) ⌝ }
 {
     let m = text_count(elements);
-    put2(elements, TEXTS + m * TEXT_CELLS, kind, value);
+    put2(elements, TEXTS_AT + m * TEXT_WIDTH, kind, value);
     elements[1] = m as u64 + 1;
 }
 
@@ -172,6 +175,6 @@ pub fn add_tree(elements: &mut [u64], f: FileNumber, root: Element)
     ensures { λ _. ⌜ HoldsElements (now (elements .exit)) (addTree (elementsOf (now (elements .entry))) (record { file = f .0; root = root .0 })) ⌝ }
 {
     let m = tree_count(elements);
-    put2(elements, TREES + m * TREE_CELLS, f.0, root.0 as u64);
+    put2(elements, TREES_AT + m * TREE_WIDTH, f.0, root.0 as u64);
     elements[2] = m as u64 + 1;
 }

@@ -1,13 +1,19 @@
-// The model table: the count of elements; each element's parent + 1, 0 for none; each element's set; where each element's list
-// starts among the items, and where the last one ends; the items, an element's number or 1024 + a text's number.
+// The model table: the count of elements; each element's parent + 1, 0 for none; where each element's list starts among the items, and where
+// the last one ends; the items, an element's number or ELEMENT_LIMIT + a text's number; each element's set; zeros behind what each area uses.
 
 use crate::file_set::FileSet;
+use crate::file_set::SET_WIDTH;
+use crate::file_set::read_set;
+use crate::file_set::store_set;
+use crate::limits::ELEMENT_LIMIT;
+use crate::limits::ITEM_LIMIT;
 use crate::numbers::Element;
 ghost use mathlib.Core.Path.{_≡_};
 ghost use Prim.Native.Nat.{ℕ, _+_, _-_, _≤_, _<_};
 ghost use lib.ListN.{length, getD, replicate};
 ghost use Rattle.tables.specs.Limits.{elementLimit, itemLimit};
 ghost use Rattle.tables.specs.Records.{Model, child, parentOf, setOf, listOf, contentItems, putParent, putSet, insertItem, removeItem, addToModel};
+ghost use Rattle.tables.specs.SetCells.{setIs};
 ghost use Rattle.tables.specs.ModelTable.{parentIs, itemIs, parentCell, cellParent, itemCell, cellItem, countOf, modelOf, ParentBelow, ItemBelow, GoodModel, HoldsModel, StartOf, shiftIn, shiftOut, onFrom};
 
 pub enum Parent {
@@ -21,17 +27,19 @@ pub enum Item {
     Text(usize),
 }
 
-pub const MODEL_SIZE: usize = 5122;
+// Where each area begins, and the table's size.
+pub const PARENTS_AT: usize = 1;
 
-const PARENTS: usize = 1;
+pub const STARTS_AT: usize = PARENTS_AT + ELEMENT_LIMIT;
 
-const SETS: usize = 1025;
+pub const ITEMS_AT: usize = STARTS_AT + ELEMENT_LIMIT + 1;
 
-const STARTS: usize = 2049;
+pub const SETS_AT: usize = ITEMS_AT + ITEM_LIMIT;
 
-const ITEMS: usize = 3074;
+pub const MODEL_SIZE: usize = SETS_AT + ELEMENT_LIMIT * SET_WIDTH;
 
-const TEXTS: u64 = 1024;
+// The cell of text 0 among the items: those of elements are below it.
+pub const TEXT_CELLS_AT: u64 = ELEMENT_LIMIT as u64;
 
 // One cell as what it says, and back.
 
@@ -60,10 +68,10 @@ pub fn parent_cell(p: Parent) -> u64
 fn cell_item(c: u64) -> Item
     ensures { λ r. ⌜ itemIs r ≡ cellItem c ⌝ }
 {
-    if c < TEXTS {
+    if c < TEXT_CELLS_AT {
         return Item::Child(Element(c as usize));
     }
-    Item::Text((c - TEXTS) as usize)
+    Item::Text((c - TEXT_CELLS_AT) as usize)
 }
 
 fn item_cell(a: Item) -> u64
@@ -75,7 +83,7 @@ fn item_cell(a: Item) -> u64
             let i = e.0;
             i as u64
         }
-        Item::Text(t) => TEXTS + t as u64,
+        Item::Text(t) => TEXT_CELLS_AT + t as u64,
     }
 }
 
@@ -157,17 +165,16 @@ pub fn parent_of(model: &[u64], e: Element) -> Parent
     requires { ⌜ e .0 < countOf (modelOf (now model)) ⌝ }
     ensures { λ r. ⌜ parentIs r ≡ parentOf (modelOf (now (model .entry))) (e .0) ⌝ }
 {
-    let i = PARENTS + e.0;
+    let i = PARENTS_AT + e.0;
     cell_parent(model[i])
 }
 
 pub fn set_of(model: &[u64], e: Element) -> FileSet
     requires { ⌜ GoodModel (now model) ⌝ }
     requires { ⌜ e .0 < countOf (modelOf (now model)) ⌝ }
-    ensures { λ r. ⌜ r .0 ≡ setOf (modelOf (now (model .entry))) (e .0) ⌝ }
+    ensures { λ r. ⌜ setIs r ≡ setOf (modelOf (now (model .entry))) (e .0) ⌝ }
 {
-    let i = SETS + e.0;
-    FileSet(model[i])
+    read_set(model, SETS_AT + e.0 * SET_WIDTH)
 }
 
 // Where the list of an element starts among the items.
@@ -176,7 +183,7 @@ fn start_of(model: &[u64], e: Element) -> usize
     requires { ⌜ e .0 < countOf (modelOf (now model)) ⌝ }
     ensures { λ r. ⌜ StartOf (modelOf (now (model .entry))) (e .0) r ⌝ }
 {
-    let i = STARTS + e.0;
+    let i = STARTS_AT + e.0;
     model[i] as usize
 }
 
@@ -185,7 +192,7 @@ pub fn item_total(model: &[u64]) -> usize
     requires { ⌜ GoodModel (now model) ⌝ }
     ensures { λ r. ⌜ r ≡ contentItems (modelOf (now (model .entry))) ⌝ }
 {
-    let i = STARTS + count(model);
+    let i = STARTS_AT + count(model);
     model[i] as usize
 }
 
@@ -194,7 +201,7 @@ pub fn list_length(model: &[u64], e: Element) -> usize
     requires { ⌜ e .0 < countOf (modelOf (now model)) ⌝ }
     ensures { λ r. ⌜ r ≡ length (listOf (modelOf (now (model .entry))) (e .0)) ⌝ }
 {
-    let i = STARTS + e.0;
+    let i = STARTS_AT + e.0;
     let j = i + 1;
     model[j] as usize - model[i] as usize
 }
@@ -205,7 +212,7 @@ pub fn item_at(model: &[u64], e: Element, i: usize) -> Item
     ensures { λ r. ⌜ itemIs r ≡ getD (listOf (modelOf (now (model .entry))) (e .0)) i (child 0) ⌝ }
 {
     let at = start_of(model, e) + i;
-    let j = ITEMS + at;
+    let j = ITEMS_AT + at;
     cell_item(model[j])
 }
 
@@ -217,17 +224,16 @@ pub fn set_parent(model: &mut [u64], e: Element, p: Parent)
     requires { ⌜ ParentBelow (countOf (modelOf (now model))) (parentIs p) ⌝ }
     ensures { λ _. ⌜ HoldsModel (now (model .exit)) (putParent (modelOf (now (model .entry))) (e .0) (parentIs p)) ⌝ }
 {
-    let i = PARENTS + e.0;
+    let i = PARENTS_AT + e.0;
     model[i] = parent_cell(p);
 }
 
 pub fn set_set(model: &mut [u64], e: Element, s: FileSet)
     requires { ⌜ GoodModel (now model) ⌝ }
     requires { ⌜ e .0 < countOf (modelOf (now model)) ⌝ }
-    ensures { λ _. ⌜ HoldsModel (now (model .exit)) (putSet (modelOf (now (model .entry))) (e .0) (s .0)) ⌝ }
+    ensures { λ _. ⌜ HoldsModel (now (model .exit)) (putSet (modelOf (now (model .entry))) (e .0) (setIs s)) ⌝ }
 {
-    let at = SETS + e.0;
-    model[at] = s.0;
+    store_set(model, SETS_AT + e.0 * SET_WIDTH, s);
 }
 
 // The item at this place of the element's list.
@@ -243,11 +249,11 @@ pub fn insert_item(model: &mut [u64], e: Element, i: usize, a: Item)
     let total = item_total(model);
     let at = start_of(model, e) + i;
     let v = item_cell(a);
-    let end = ITEMS + total + 1;
-    shift_in(&mut model[ITEMS..end], at, v);
-    let last = STARTS + n + 1;
+    let end = ITEMS_AT + total + 1;
+    shift_in(&mut model[ITEMS_AT..end], at, v);
+    let last = STARTS_AT + n + 1;
     let later = e.0 + 1;
-    raise_from(&mut model[STARTS..last], later);
+    raise_from(&mut model[STARTS_AT..last], later);
 }
 
 // The element's list without the item at this place.
@@ -260,11 +266,11 @@ pub fn remove_item(model: &mut [u64], e: Element, i: usize)
     let n = count(model);
     let total = item_total(model);
     let at = start_of(model, e) + i;
-    let end = ITEMS + total;
-    shift_out(&mut model[ITEMS..end], at);
-    let last = STARTS + n + 1;
+    let end = ITEMS_AT + total;
+    shift_out(&mut model[ITEMS_AT..end], at);
+    let last = STARTS_AT + n + 1;
     let next = e.0 + 1;
-    lower_from(&mut model[STARTS..last], next);
+    lower_from(&mut model[STARTS_AT..last], next);
 }
 
 // One more element, with an empty list.
@@ -272,17 +278,16 @@ pub fn add_element(model: &mut [u64], p: Parent, s: FileSet)
     requires { ⌜ GoodModel (now model) ⌝ }
     requires { ⌜ countOf (modelOf (now model)) < elementLimit ⌝ }
     requires { ⌜ ParentBelow (countOf (modelOf (now model))) (parentIs p) ⌝ }
-    ensures { λ _. ⌜ HoldsModel (now (model .exit)) (addToModel (modelOf (now (model .entry))) (parentIs p) (s .0)) ⌝ }
+    ensures { λ _. ⌜ HoldsModel (now (model .exit)) (addToModel (modelOf (now (model .entry))) (parentIs p) (setIs s)) ⌝ }
 {
     let n = count(model);
     let c = parent_cell(p);
-    let i = STARTS + n;
+    let i = STARTS_AT + n;
     let last = model[i];
     model[0] = n as u64 + 1;
-    let j = PARENTS + n;
+    let j = PARENTS_AT + n;
     model[j] = c;
-    let k = SETS + n;
-    model[k] = s.0;
-    let l = STARTS + (n + 1);
-    model[l] = last;
+    let k = STARTS_AT + (n + 1);
+    model[k] = last;
+    store_set(model, SETS_AT + n * SET_WIDTH, s);
 }

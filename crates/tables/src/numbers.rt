@@ -8,5 +8,5 @@ pub struct Name(pub u64);
 // A type, numbered from 0 in deck order.
 pub struct TypeNumber(pub usize);
 
-// A file, 0 to 63.
+// A file, numbered from 0.
 pub struct FileNumber(pub u64);

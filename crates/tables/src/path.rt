@@ -1,4 +1,6 @@
 // Paths: up to four parts, each as part + 1; 0 and what stands behind it is no part.
+
+use crate::limits::PATH_LIMIT;
 ghost use mathlib.Core.Path.{_≡_};
 ghost use mathlib.Core.List.{dropLast};
 ghost use lib.ListN.{getD};
@@ -31,7 +33,7 @@ impl Path {
         ensures { λ r. ⌜ r ≡ orderOf (pathOrder (partsOf self) (partsOf q)) ⌝ }
     {
         let mut i = 0;
-        while i < 4 {
+        while i < PATH_LIMIT {
             let x = self.part(i);
             let y = q.part(i);
             if x < y {
@@ -64,7 +66,7 @@ impl Path {
         ensures { λ r. ⌜ r ≡ begins (partsOf self) (partsOf q) ⌝ }
     {
         let mut i = 0;
-        while i < 4 {
+        while i < PATH_LIMIT {
             let x = self.part(i);
             let y = q.part(i);
             if x == 0 {

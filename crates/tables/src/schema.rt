@@ -5,6 +5,10 @@ use crate::cells::put2;
 use crate::cells::put3;
 use crate::cells::put6;
 use crate::cells::put9;
+use crate::limits::FILE_LIMIT;
+use crate::limits::GROUP_LIMIT;
+use crate::limits::ROW_LIMIT;
+use crate::limits::TYPE_LIMIT;
 use crate::numbers::FileNumber;
 use crate::numbers::Name;
 use crate::numbers::TypeNumber;
@@ -12,30 +16,30 @@ use crate::path::Path;
 ghost use mathlib.Core.Path.{_≡_};
 ghost use Prim.Native.Nat.{_<_};
 ghost use lib.ListN.{length, getD};
-ghost use Rattle.tables.specs.Limits.{typeLimit, groupLimit, rowLimit, fileLimit};
+ghost use Rattle.tables.specs.Limits.{typeLimit, groupLimit, rowLimit, fileLimit, pathLimit};
 ghost use Rattle.tables.specs.Paths.{cellsOf, partsOf, pathCells};
-ghost use Rattle.tables.specs.Records.{typeRow, addType, addGroup, addSubElement, addFile};
-ghost use Rattle.tables.specs.SchemaTable.{schemaOf, GoodSchema, HoldsSchema, typeCells, groupCells, subElementCells, fileCells, noGroup, noSubElement, noFile, modeNumber, modeFrom, multNumber, multFrom, boolNumber, pathLimit};
+ghost use Rattle.tables.specs.Records.{typeRow, modes, mults, addType, addGroup, addSubElement, addFile};
+ghost use Rattle.tables.specs.SchemaTable.{schemaOf, GoodSchema, HoldsSchema, typeCells, groupCells, subElementCells, fileCells, noGroup, noSubElement, noFile, modeNumber, modeFrom, multNumber, multFrom, boolNumber, typeWidth, groupWidth, rowWidth, fileWidth};
 
-// Cells of the table.
-pub const SCHEMA_SIZE: usize = 5892;
+// The cells of one row of each area.
+pub const TYPE_WIDTH: usize = 3;
 
-// Where each area begins, and the cells of one row.
-const TYPES: usize = 4;
+pub const GROUP_WIDTH: usize = 6;
 
-const TYPE_CELLS: usize = 3;
+pub const ROW_WIDTH: usize = 9;
 
-const GROUPS: usize = 388;
+pub const FILE_WIDTH: usize = 2;
 
-const GROUP_CELLS: usize = 6;
+// Where each area begins, and the table's size.
+pub const TYPES_AT: usize = 4;
 
-const ROWS: usize = 1156;
+pub const GROUPS_AT: usize = TYPES_AT + TYPE_LIMIT * TYPE_WIDTH;
 
-const ROW_CELLS: usize = 9;
+pub const ROWS_AT: usize = GROUPS_AT + GROUP_LIMIT * GROUP_WIDTH;
 
-const FILES: usize = 5764;
+pub const FILES_AT: usize = ROWS_AT + ROW_LIMIT * ROW_WIDTH;
 
-const FILE_CELLS: usize = 2;
+pub const SCHEMA_SIZE: usize = FILES_AT + FILE_LIMIT as usize * FILE_WIDTH;
 
 pub fn type_count(schema: &[u64]) -> usize
     requires { ⌜ GoodSchema (now schema) ⌝ }
@@ -69,10 +73,10 @@ pub fn file_count(schema: &[u64]) -> usize
 fn type_cell(schema: &[u64], t: usize, field: usize) -> u64
     requires { ⌜ GoodSchema (now schema) ⌝ }
     requires { ⌜ t < length (schemaOf (now schema) .types) ⌝ }
-    requires { ⌜ field < 3 ⌝ }
+    requires { ⌜ field < typeWidth ⌝ }
     ensures { λ r. ⌜ r ≡ getD (typeCells (typeRow (schemaOf (now (schema .entry))) t)) field 0 ⌝ }
 {
-    schema[TYPES + (t * TYPE_CELLS + field)]
+    schema[TYPES_AT + (t * TYPE_WIDTH + field)]
 }
 
 pub fn type_mode(schema: &[u64], t: TypeNumber) -> u64
@@ -103,10 +107,10 @@ pub fn type_split(schema: &[u64], t: TypeNumber) -> u64
 fn group_cell(schema: &[u64], g: usize, field: usize) -> u64
     requires { ⌜ GoodSchema (now schema) ⌝ }
     requires { ⌜ g < length (schemaOf (now schema) .groups) ⌝ }
-    requires { ⌜ field < 6 ⌝ }
+    requires { ⌜ field < groupWidth ⌝ }
     ensures { λ r. ⌜ r ≡ getD (groupCells (getD (schemaOf (now (schema .entry)) .groups) g noGroup)) field 0 ⌝ }
 {
-    schema[GROUPS + (g * GROUP_CELLS + field)]
+    schema[GROUPS_AT + (g * GROUP_WIDTH + field)]
 }
 
 pub fn group_type(schema: &[u64], g: usize) -> TypeNumber
@@ -142,10 +146,10 @@ pub fn group_mode(schema: &[u64], g: usize) -> u64
 fn row_cell(schema: &[u64], i: usize, field: usize) -> u64
     requires { ⌜ GoodSchema (now schema) ⌝ }
     requires { ⌜ i < length (schemaOf (now schema) .subElements) ⌝ }
-    requires { ⌜ field < 9 ⌝ }
+    requires { ⌜ field < rowWidth ⌝ }
     ensures { λ r. ⌜ r ≡ getD (subElementCells (getD (schemaOf (now (schema .entry)) .subElements) i noSubElement)) field 0 ⌝ }
 {
-    schema[ROWS + (i * ROW_CELLS + field)]
+    schema[ROWS_AT + (i * ROW_WIDTH + field)]
 }
 
 pub fn row_type(schema: &[u64], i: usize) -> TypeNumber
@@ -205,10 +209,10 @@ pub fn row_mask(schema: &[u64], i: usize) -> u64
 fn file_cell(schema: &[u64], i: usize, field: usize) -> u64
     requires { ⌜ GoodSchema (now schema) ⌝ }
     requires { ⌜ i < length (schemaOf (now schema) .files) ⌝ }
-    requires { ⌜ field < 2 ⌝ }
+    requires { ⌜ field < fileWidth ⌝ }
     ensures { λ r. ⌜ r ≡ getD (fileCells (getD (schemaOf (now (schema .entry)) .files) i noFile)) field 0 ⌝ }
 {
-    schema[FILES + (i * FILE_CELLS + field)]
+    schema[FILES_AT + (i * FILE_WIDTH + field)]
 }
 
 pub fn file_number(schema: &[u64], i: usize) -> FileNumber
@@ -255,26 +259,26 @@ fn bool_cell(b: bool) -> u64
 pub fn add_type(schema: &mut [u64], mode: u64, named: bool, split: u64)
     requires { ⌜ GoodSchema (now schema) ⌝ }
     requires { ⌜ length (schemaOf (now schema) .types) < typeLimit ⌝ }
-    requires { ⌜ mode < 5 ⌝ }
+    requires { ⌜ mode < length modes ⌝ }
     ensures { λ _. ⌜ HoldsSchema (now (schema .exit)) (addType (schemaOf (now (schema .entry))) (record { mode = modeFrom mode; named = named; split = split })) ⌝ }
 {
     let m = type_count(schema);
     let n = bool_cell(named);
-    put3(schema, TYPES + m * TYPE_CELLS, mode, n, split);
+    put3(schema, TYPES_AT + m * TYPE_WIDTH, mode, n, split);
     schema[0] = m as u64 + 1;
 }
 
 pub fn add_group(schema: &mut [u64], t: TypeNumber, p: Path, mode: u64)
     requires { ⌜ GoodSchema (now schema) ⌝ }
     requires { ⌜ length (schemaOf (now schema) .groups) < groupLimit ⌝ }
-    requires { ⌜ mode < 5 ⌝ }
+    requires { ⌜ mode < length modes ⌝ }
     ensures { λ _. ⌜ HoldsSchema (now (schema .exit)) (addGroup (schemaOf (now (schema .entry))) (record { type = t .0; path = partsOf p; mode = modeFrom mode })) ⌝ }
 {
     let m = group_count(schema);
     let q = stored_path(p);
     put6(
         schema,
-        GROUPS + m * GROUP_CELLS,
+        GROUPS_AT + m * GROUP_WIDTH,
         t.0 as u64,
         q.0,
         q.1,
@@ -296,14 +300,14 @@ pub fn add_row(
 )
     requires { ⌜ GoodSchema (now schema) ⌝ }
     requires { ⌜ length (schemaOf (now schema) .subElements) < rowLimit ⌝ }
-    requires { ⌜ mult < 3 ⌝ }
+    requires { ⌜ mult < length mults ⌝ }
     ensures { λ _. ⌜ HoldsSchema (now (schema .exit)) (addSubElement (schemaOf (now (schema .entry))) (record { type = t .0; path = partsOf p; name = n .0; childType = child .0; mult = multFrom mult; mask = mask })) ⌝ }
 {
     let m = row_count(schema);
     let q = stored_path(p);
     put9(
         schema,
-        ROWS + m * ROW_CELLS,
+        ROWS_AT + m * ROW_WIDTH,
         t.0 as u64,
         q.0,
         q.1,
@@ -323,6 +327,6 @@ pub fn add_file(schema: &mut [u64], f: FileNumber, version: u64)
     ensures { λ _. ⌜ HoldsSchema (now (schema .exit)) (addFile (schemaOf (now (schema .entry))) (record { file = f .0; version = version })) ⌝ }
 {
     let m = file_count(schema);
-    put2(schema, FILES + m * FILE_CELLS, f.0, version);
+    put2(schema, FILES_AT + m * FILE_WIDTH, f.0, version);
     schema[3] = m as u64 + 1;
 }

@@ -1,4 +1,6 @@
 // Texts: an enum number, a string of the deck, a whole number, a float.
+
+use crate::limits::STRING_LIMIT;
 ghost use mathlib.Core.Path.{_≡_};
 ghost use Prim.Native.Nat.{_+_, _≤_};
 ghost use lib.Ieee.{binary64, ofBits};
@@ -37,8 +39,8 @@ pub fn text_of(kind: u64, value: u64) -> Text
     match kind {
         0 => Text::Number(value),
         1 => Text::Str(Place {
-            start: (value / 65536) as usize,
-            size: (value % 65536) as usize,
+            start: (value / STRING_LIMIT) as usize,
+            size: (value % STRING_LIMIT) as usize,
         }),
         2 => Text::Whole(value),
         _ => Text::Float(float_of(value)),

@@ -50,7 +50,7 @@ fn floats(a: u64, b: u64) {
     ));
 }
 
-// Two NaNs, both zeros, both infinities, a NaN and zero, one and two.
+// Two NaNs, both zeros, both infinities, a NaN and zero, one and two, the smallest number and zero, and itself.
 fn all_floats() {
     word(b"same float");
     floats(0x7ff8_0000_0000_0001, 0xfff0_0000_0000_0002);
@@ -58,6 +58,8 @@ fn all_floats() {
     floats(0x7ff0_0000_0000_0000, 0xfff0_0000_0000_0000);
     floats(0x7ff8_0000_0000_0001, 0);
     floats(0x3ff0_0000_0000_0000, 0x4000_0000_0000_0000);
+    floats(1, 0);
+    floats(1, 1);
     end();
 }
 

@@ -1,21 +1,21 @@
 -- Fields of a line by their places, and the kinds of lines. Assumes nothing.
 use mathlib.Core.Bool.{Bool, true, false}
 use mathlib.Core.List.{List, [], _∷_, _++_, append-assoc}
-use mathlib.Core.Option.{Option, none, some, bind}
-use mathlib.Core.Path.{_≡_, refl, sym, _∙_, ap, subst}
+use mathlib.Core.Option.{none, some, bind}
+use mathlib.Core.Path.{_≡_, refl, sym, _∙_, ap}
 use Prim.Native.Nat.{ℕ, zero, suc, _+_, _-_, _≤_, _<_}
 use native.Mathlib.Numerals.{add-one}
 use native.Mathlib.Omega.{arith}
 use borrow.Author.Count.{below-none, below-more}
 use borrow.Author.Tests.{eq-eqb, ne-eqb, eqb-true, eqb-false}
 use lib.Dec.{eqb}
-use lib.ListN.{length, getD, take, drop, set, length-set, length-take, length-append, List·getD-eq-default}
-use lib.Seq.{getD-set-same, getD-set-other, take-suc-set, take-all, take-at, length-take-le, getD-take}
-use Rattle.tables.specs.Cells.{Each}
-use Rattle.tables.specs.Lists.{firstOf}
-use Rattle.deck.specs.Deck.{Part, parts, fields, field, only, letter, byLetter, Line, lineT, lineG, lineS, lineF, lineM, lineB, lineE, lineC, kinds, readLine}
+use lib.ListN.{length, getD, take, set, length-set, length-take, List·getD-eq-default}
+use lib.Seq.{getD-set-same, getD-set-other, take-suc-set, take-all, take-at, getD-take}
+use Rattle.deck.specs.Deck.{Part, parts, fields, field, only, letter, byLetter, lineT, lineG, lineS, lineF, lineM, lineB, lineE, lineC, kinds, readLine}
 use Rattle.deck.specs.declared.lines.Fields.{Fields}
-use Rattle.deck.specs.Answers.{between, partAt, Next, partsAt, fieldsOf, Placed, Splits, SpanOf}
+use Rattle.tables.specs.Cells.{between}
+use Rattle.deck.specs.Answers.{partAt, Next, partsAt, fieldsOf, Placed, Splits, SpanOf}
+use Rattle.deck.proofs.Laws.Letters.{letter-alike}
 use Rattle.deck.proofs.Laws.Parts.{next-part, last-part, between-cons, length-between}
 
 -- ---- parts by their places
@@ -55,7 +55,7 @@ pub record Splitting (deck : List ℕ) (l : List Part) (end : ℕ) (ss es : List
   pub ends : length es ≡ 8
   pub each : (i : ℕ) → i < n → Ordered deck ss es i
   pub before : at ≤ end
-  pub left : l ≡ take n (partsAt deck ss es) ++ parts 44 at (between deck at end)
+  pub left : l ≡ take n (partsAt deck ss es) ++ parts 44 at (between at end deck)
 
 pub split-start : (deck : List ℕ) (start end : ℕ) (ss es : List ℕ) → length ss ≡ 8 → length es ≡ 8 → start ≤ end
     → Splitting deck (fields (partAt deck start end)) end ss es 0 start
@@ -71,7 +71,7 @@ split-full deck l end ss es n at w h =
     let y : length (take n (partsAt deck ss es)) ≡ 8 = rw (length-take, length-parts deck ss es (w .starts ∙ sym (w .ends)), w .starts, z) in
     record {
       placed = record { few = w .few; starts = w .starts; ends = w .ends; each = w .each };
-      is = sym (ap (take 8) (w .left) ∙ take-at (take n (partsAt deck ss es)) (parts 44 at (between deck at end)) 8 y);
+      is = sym (ap (take 8) (w .left) ∙ take-at (take n (partsAt deck ss es)) (parts 44 at (between at end deck)) 8 y);
     }
 
 module _ (deck : List ℕ) (l : List Part) (end : ℕ) (ss es : List ℕ) (n at e : ℕ) (fits : end ≤ length deck)
@@ -111,7 +111,7 @@ module _ (deck : List ℕ) (l : List Part) (end : ℕ) (ss es : List ℕ) (n at 
         before = omega arith;
         left =
             w .left ∙ ap (λ (q : List Part). take n (partsAt deck ss es) ++ q) (next-part deck 44 at end e fits x k)
-            ∙ rw stored (sym (append-assoc (take n (partsAt deck ss es)) (partAt deck at e ∷ []) (parts 44 (e + 1) (between deck (e + 1) end))));
+            ∙ rw stored (sym (append-assoc (take n (partsAt deck ss es)) (partAt deck at e ∷ []) (parts 44 (e + 1) (between (e + 1) end deck))));
       }
 
 -- ---- the one byte of a field
@@ -157,7 +157,7 @@ module _ (deck : List ℕ) (start end : ℕ) (fits : end ≤ length deck) where
       rw (letter, between-cons deck start end (omega arith) fits, z)
 
   pub letter-not : (end - start ≡ 1 → ⊥) → letter (partAt deck start end) ≡ none
-  letter-not h = go (between deck start end) (λ e. h (sym (length-between deck start end fits) ∙ e))
+  letter-not h = go (between start end deck) (λ e. h (sym (length-between deck start end fits) ∙ e))
     where
       go : (bs : List ℕ) → (length bs ≡ 1 → ⊥) → letter (record { start = start; bytes = bs }) ≡ none
       go bs n = no-letter start bs n
@@ -216,48 +216,9 @@ module _ (l : List Part) where
   unfolding lineC
   take-c = simp (field-take 1 (omega arith), field-take 2 (omega arith), field-take 3 (omega arith), count-take 4 (omega arith))
 
--- two lists that every reading of the table takes alike
-by-table : (table : List (ℕ × (List Part → Option Line))) (k : ℕ) (a b : List Part)
-    → Each (λ (r : ℕ × (List Part → Option Line)). r .1 a ≡ r .1 b) table → byLetter table k a ≡ byLetter table k b
-unfolding byLetter firstOf
-by-table [] k a b e = refl
-by-table (r ∷ rs) k a b e = go (eqb (r .0) k) (by-table rs k a b (e .1))
-  where
-    pick : Bool → Option (ℕ × (List Part → Option Line))
-    pick t = elim t [ true ↦ some r | false ↦ firstOf (λ (q : ℕ × (List Part → Option Line)). eqb (q .0) k) rs ]
-
-    go : (t : Bool) → byLetter rs k a ≡ byLetter rs k b
-        → _≡_ {A = Option Line} (elim (pick t) [ none ↦ none | some q ↦ q .1 a ]) (elim (pick t) [ none ↦ none | some q ↦ q .1 b ])
-    go true h = e .0
-    go false h = h
-
 pub kinds-take : (k : ℕ) (l : List Part) → byLetter kinds k (take 8 l) ≡ byLetter kinds k l
 kinds-take k l =
-    by-table kinds k (take 8 l) l (take-t l, (take-g l, (take-s l, (take-f l, (take-m l, (take-b l, (take-e l, (take-c l, tt))))))))
-
-pub kinds-none : (k : ℕ) (l : List Part) → (k ≡ 84 → ⊥) → (k ≡ 71 → ⊥) → (k ≡ 83 → ⊥) → (k ≡ 70 → ⊥) → (k ≡ 77 → ⊥) → (k ≡ 66 → ⊥)
-    → (k ≡ 69 → ⊥) → (k ≡ 67 → ⊥) → byLetter kinds k l ≡ none
-unfolding byLetter firstOf
-kinds-none k l t g s f m b e c =
-    rw (
-      byLetter,
-      firstOf,
-      ne-eqb 84 k (λ h. t (sym h)),
-      firstOf,
-      ne-eqb 71 k (λ h. g (sym h)),
-      firstOf,
-      ne-eqb 83 k (λ h. s (sym h)),
-      firstOf,
-      ne-eqb 70 k (λ h. f (sym h)),
-      firstOf,
-      ne-eqb 77 k (λ h. m (sym h)),
-      firstOf,
-      ne-eqb 66 k (λ h. b (sym h)),
-      firstOf,
-      ne-eqb 69 k (λ h. e (sym h)),
-      firstOf,
-      ne-eqb 67 k (λ h. c (sym h)),
-    )
+    letter-alike kinds k (take 8 l) l (take-t l, (take-g l, (take-s l, (take-f l, (take-m l, (take-b l, (take-e l, (take-c l, tt))))))))
 
 module _ (deck : List ℕ) (p : Part) (f : Fields) (w : Splits deck (fields p) f) where
   first-letter : letter (field (fieldsOf deck f) 0) ≡ letter (field (fields p) 0)
@@ -267,6 +228,6 @@ module _ (deck : List ℕ) (p : Part) (f : Fields) (w : Splits deck (fields p) f
   unfolding readLine bind
   read-bad e = rw (readLine, sym first-letter ∙ e)
 
-  pub read-row : (k : ℕ) → letter (field (fieldsOf deck f) 0) ≡ some k → byLetter kinds k (fieldsOf deck f) ≡ readLine p
+  pub read-kind : (k : ℕ) → letter (field (fieldsOf deck f) 0) ≡ some k → byLetter kinds k (fieldsOf deck f) ≡ readLine p
   unfolding readLine bind
-  read-row k e = rw (readLine, sym first-letter ∙ e) (ap (byLetter kinds k) (w .is) ∙ kinds-take k (fields p))
+  read-kind k e = rw (readLine, sym first-letter ∙ e) (ap (byLetter kinds k) (w .is) ∙ kinds-take k (fields p))

@@ -3,12 +3,12 @@ use mathlib.Core.Bool.{Bool, true, false}
 use mathlib.Core.List.{List, [], _∷_}
 use mathlib.Core.Option.{Option, none, some, bind}
 use mathlib.Core.Path.{_≡_, refl, sym, _∙_, ap}
-use Prim.Native.Nat.{ℕ, zero, suc, _+_, _-_, _*_, _/_, _≤_, _<_}
+use Prim.Native.Nat.{ℕ, _+_, _-_, _*_, _/_, _≤_, _<_}
 use native.Mathlib.Nat.{div-lt-iff-lt-mul, le-div-iff-mul-le, le-mul-of-pos-right}
 use native.Mathlib.Numerals.{add-one}
 use native.Mathlib.Omega.{arith}
 use borrow.Author.Tests.{lt-ltb, le-ltb, le-leb, lt-leb, eq-eqb, ne-eqb, leb-true}
-use lib.Dec.{eqb, leb, ltb}
+use lib.Dec.{leb, ltb}
 use lib.ListN.{length, getD, drop, drop-of-length-le}
 use lib.Seq.{drop-cons}
 use Rattle.deck.specs.Deck.{Part, digit, valueFrom, plain, only, number}
@@ -93,7 +93,7 @@ plain-other (b ∷ []) h k e = absurd (k refl)
 plain-other (b ∷ c ∷ bs) h k e = rw (plain, ne-eqb b 48 e)
 
 -- the first i bytes give the value v
-pub record Reading (radix most : ℕ) (s : List ℕ) (v i : ℕ) : Type 0 where
+pub record NumberReading (radix most : ℕ) (s : List ℕ) (v i : ℕ) : Type 0 where
   pub place : i ≤ length s
   pub small : v ≤ most
   pub left : number radix most (whole s) ≡ rest radix most v (drop i s)

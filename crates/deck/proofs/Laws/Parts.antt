@@ -11,7 +11,8 @@ use lib.Dec.{eqb}
 use lib.ListN.{length, getD, take, drop, length-take, length-drop}
 use lib.Seq.{drop-cons, drop-drop, take-take, take-all, take-nil}
 use Rattle.deck.specs.Deck.{Part, ahead, parts}
-use Rattle.deck.specs.Answers.{between, partAt, reach, Next}
+use Rattle.tables.specs.Cells.{between}
+use Rattle.deck.specs.Answers.{partAt, reach, Next}
 
 -- ---- parts of any bytes
 
@@ -70,30 +71,30 @@ drop-take (suc m) k [] = rw (take-nil, take-nil)
 drop-take (suc m) k (x ∷ xs) = rw suc-add (drop-take m k xs)
 
 module _ (s : List ℕ) (i end : ℕ) where
-  pub length-between : end ≤ length s → length (between s i end) ≡ end - i
+  pub length-between : end ≤ length s → length (between i end s) ≡ end - i
   length-between h = rw (length-take, length-drop) (omega arith)
 
-  pub between-cons : i < end → end ≤ length s → between s i end ≡ getD s i 0 ∷ between s (i + 1) end
+  pub between-cons : i < end → end ≤ length s → between i end s ≡ getD s i 0 ∷ between (i + 1) end s
   between-cons h k =
       let z : end - i ≡ suc (end - (i + 1)) = omega arith in
       rw (z, drop-cons s i 0 (omega arith), add-one i)
 
-  pub between-none : end ≤ i → between s i end ≡ []
+  pub between-none : end ≤ i → between i end s ≡ []
   between-none h = let z : end - i ≡ 0 = omega arith in rw z
 
 -- ---- the search for a separator
 
 module _ (s : List ℕ) (separator i end : ℕ) where
-  pub reach-here : i < end → end ≤ length s → getD s i 0 ≡ separator → reach separator (between s i end) ≡ 0
+  pub reach-here : i < end → end ≤ length s → getD s i 0 ≡ separator → reach separator (between i end s) ≡ 0
   unfolding reach
   reach-here h k e = rw (between-cons s i end h k, reach, eq-eqb (getD s i 0) separator e)
 
   pub reach-on : i < end → end ≤ length s → (getD s i 0 ≡ separator → ⊥)
-      → reach separator (between s i end) ≡ suc (reach separator (between s (i + 1) end))
+      → reach separator (between i end s) ≡ suc (reach separator (between (i + 1) end s))
   unfolding reach
   reach-on h k n = rw (between-cons s i end h k, reach, ne-eqb (getD s i 0) separator n)
 
-  pub reach-end : end ≤ i → reach separator (between s i end) ≡ 0
+  pub reach-end : end ≤ i → reach separator (between i end s) ≡ 0
   unfolding reach
   reach-end h = rw (between-none s i end h)
 
@@ -101,31 +102,31 @@ module _ (s : List ℕ) (separator i end : ℕ) where
 pub record Seeking (s : List ℕ) (separator at end i : ℕ) : Type 0 where
   pub past : at ≤ i
   pub within : i ≤ end
-  pub is : i + reach separator (between s i end) ≡ at + reach separator (between s at end)
+  pub is : i + reach separator (between i end s) ≡ at + reach separator (between at end s)
 
 -- ---- parts between two places, at the place of the next separator
 
 module _ (s : List ℕ) (separator at end e : ℕ) (fits : end ≤ length s) (n : Next s separator at end e) where
   -- up to the separator, and then the parts behind it
-  pub next-part : e < end → parts separator at (between s at end) ≡ partAt s at e ∷ parts separator (e + 1) (between s (e + 1) end)
+  pub next-part : e < end → parts separator at (between at end s) ≡ partAt s at e ∷ parts separator (e + 1) (between (e + 1) end s)
   next-part h =
-      let r : ℕ = reach separator (between s at end) in
+      let r : ℕ = reach separator (between at end s) in
       let z : r ≡ e - at = omega (arith, n .is) in
       let y : end - at ≡ suc (e - at) + (end - (e + 1)) = omega (arith, n .past) in
       let x : suc (at + (e - at)) ≡ e + 1 = omega (arith, n .past) in
       let w : at + suc (e - at) ≡ e + 1 = omega (arith, n .past) in
-      parts-next separator at (between s at end) (rw (length-between s at end fits) (omega (arith, n .is, n .past)))
+      parts-next separator at (between at end s) (rw (length-between s at end fits) (omega (arith, n .is, n .past)))
       ∙ rw (z, x, take-take (e - at) (end - at) (drop at s) (omega arith), y, drop-take (suc (e - at)) (end - (e + 1)) (drop at s), drop-drop (suc (e - at)) at s, w)
 
   -- the last part
-  pub last-part : end ≤ e → parts separator at (between s at end) ≡ partAt s at e ∷ []
+  pub last-part : end ≤ e → parts separator at (between at end s) ≡ partAt s at e ∷ []
   last-part h =
       let z : end ≡ e = omega (arith, n .within) in
-      parts-last separator at (between s at end) (rw (length-between s at end fits) (omega (arith, n .is))) ∙ rw z
+      parts-last separator at (between at end s) (rw (length-between s at end fits) (omega (arith, n .is))) ∙ rw z
 
 -- ---- lines: parts of what stands behind a place
 
-pub behind : (s : List ℕ) (at : ℕ) → between s at (length s) ≡ drop at s
+pub behind : (s : List ℕ) (at : ℕ) → between at (length s) s ≡ drop at s
 behind s at = take-all (length s - at) (drop at s) (rw length-drop (omega arith))
 
 module _ (s : List ℕ) (separator at e : ℕ) (n : Next s separator at (length s) e) where

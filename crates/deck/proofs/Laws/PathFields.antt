@@ -3,7 +3,7 @@ use mathlib.Core.Bool.{Bool, true, false}
 use mathlib.Core.List.{List, [], _∷_, _++_, append-assoc, append-nil}
 use mathlib.Core.Logic.{⊎-elim}
 use mathlib.Core.Option.{Option, none, some, bind}
-use mathlib.Core.Path.{_≡_, refl, sym, _∙_, ap}
+use mathlib.Core.Path.{_≡_, refl, _∙_, ap}
 use Prim.Native.Nat.{ℕ, zero, suc, _+_, _-_, _≤_, _<_}
 use native.Mathlib.Nat.{sub-zero, eq-or-lt-of-le}
 use native.Mathlib.Numerals.{add-one}
@@ -15,7 +15,9 @@ use Rattle.tables.specs.declared.path.Path.{Path}
 use Rattle.tables.specs.Paths.{front, partsOf, pathCells}
 use Rattle.tables.specs.Records.{SchemaPath}
 use Rattle.deck.specs.Deck.{Part, parts, number, decimal, pathParts, pathField}
-use Rattle.deck.specs.Answers.{whole, between, partAt, Next, PathPut}
+use Rattle.tables.specs.Cells.{between}
+use Rattle.tables.specs.Limits.{partLimit}
+use Rattle.deck.specs.Answers.{whole, partAt, Next, PathPut}
 use Rattle.deck.proofs.Laws.Parts.{parts-some, next-part, last-part}
 
 -- ---- one more part in the cells
@@ -82,9 +84,9 @@ rest-first k p = go (leb (length ps) k) (pathParts ps)
     go false o = refl
 
 module _ (k : ℕ) (ns : SchemaPath) (q : Part) (qs : List Part) where
-  rest-bad : decimal 255 q ≡ none → pathRest k ns (q ∷ qs) ≡ none
+  rest-bad : decimal partLimit q ≡ none → pathRest k ns (q ∷ qs) ≡ none
   unfolding pathRest pathParts bind
-  rest-bad e = go (leb (suc (length qs)) k) (decimal 255 q) (pathParts qs) e
+  rest-bad e = go (leb (suc (length qs)) k) (decimal partLimit q) (pathParts qs) e
     where
       go : (t : Bool) (o : Option ℕ) (r : Option SchemaPath) → o ≡ none
           → _≡_ {A = Option SchemaPath}
@@ -93,9 +95,9 @@ module _ (k : ℕ) (ns : SchemaPath) (q : Part) (qs : List Part) where
       go true o r e = rw e
       go false o r e = refl
 
-  rest-next : (v : ℕ) → decimal 255 q ≡ some v → pathRest (suc k) ns (q ∷ qs) ≡ pathRest k (ns ++ (v ∷ [])) qs
+  rest-next : (v : ℕ) → decimal partLimit q ≡ some v → pathRest (suc k) ns (q ∷ qs) ≡ pathRest k (ns ++ (v ∷ [])) qs
   unfolding pathRest pathParts bind
-  rest-next v e = rw (pathRest, leb·suc-suc) (go (leb (length qs) k) (decimal 255 q) (pathParts qs) e)
+  rest-next v e = rw (pathRest, leb·suc-suc) (go (leb (length qs) k) (decimal partLimit q) (pathParts qs) e)
     where
       go : (t : Bool) (o : Option ℕ) (r : Option SchemaPath) → o ≡ some v
           → _≡_ {A = Option SchemaPath}
@@ -120,7 +122,7 @@ pub record PathReading (deck : List ℕ) (start end most : ℕ) (p : Path) (n at
   pub few : n ≤ most
   pub before : at ≤ end
   pub size : length (partsOf p) ≡ n
-  pub left : pathField most (partAt deck start end) ≡ pathRest (most - n) (partsOf p) (parts 46 at (between deck at end))
+  pub left : pathField most (partAt deck start end) ≡ pathRest (most - n) (partsOf p) (parts 46 at (between at end deck))
 
 decimal-bytes : (most : ℕ) (p : Part) → decimal most p ≡ number 10 most (whole (p .bytes))
 unfolding decimal number
@@ -139,25 +141,25 @@ pub path-full : (deck : List ℕ) (start end most : ℕ) (p : Path) (n at : ℕ)
     → pathField most (partAt deck start end) ≡ none
 path-full deck start end most p n at w h =
     let z : most - n ≡ 0 = omega arith in
-    w .left ∙ rw z (rest-full (partsOf p) (parts 46 at (between deck at end)) (parts-some 46 at (between deck at end)))
+    w .left ∙ rw z (rest-full (partsOf p) (parts 46 at (between at end deck)) (parts-some 46 at (between at end deck)))
 
 module _ (deck : List ℕ) (start end most : ℕ) (p : Path) (n at e : ℕ) (fits : end ≤ length deck)
     (w : PathReading deck start end most p n at) (h : n < most) (x : Next deck 46 at end e) where
-  pub path-bad : number 10 255 (whole (between deck at e)) ≡ none → pathField most (partAt deck start end) ≡ none
+  pub path-bad : number 10 partLimit (whole (between at e deck)) ≡ none → pathField most (partAt deck start end) ≡ none
   path-bad b =
       w .left
       ∙ ⊎-elim
-      (λ k. rw (last-part deck 46 at end e fits x (omega arith)) (rest-bad (most - n) (partsOf p) (partAt deck at e) [] (decimal-bytes 255 (partAt deck at e) ∙ b)))
+      (λ k. rw (last-part deck 46 at end e fits x (omega arith)) (rest-bad (most - n) (partsOf p) (partAt deck at e) [] (decimal-bytes partLimit (partAt deck at e) ∙ b)))
       (λ k.
       rw (next-part deck 46 at end e fits x k)
-      (rest-bad (most - n) (partsOf p) (partAt deck at e) (parts 46 (e + 1) (between deck (e + 1) end)) (decimal-bytes 255 (partAt deck at e) ∙ b)))
+      (rest-bad (most - n) (partsOf p) (partAt deck at e) (parts 46 (e + 1) (between (e + 1) end deck)) (decimal-bytes partLimit (partAt deck at e) ∙ b)))
       (eq-or-lt-of-le (x .within))
 
-  module _ (v : ℕ) (g : number 10 255 (whole (between deck at e)) ≡ some v) (r : Path) (put : partsOf r ≡ partsOf p ++ (v ∷ [])) where
+  module _ (v : ℕ) (g : number 10 partLimit (whole (between at e deck)) ≡ some v) (r : Path) (put : partsOf r ≡ partsOf p ++ (v ∷ [])) where
     more : (qs : List Part) → pathRest (most - n) (partsOf p) (partAt deck at e ∷ qs) ≡ pathRest (most - (n + 1)) (partsOf r) qs
     more qs =
         let z : most - n ≡ suc (most - (n + 1)) = omega arith in
-        rw (z, put) (rest-next (most - (n + 1)) (partsOf p) (partAt deck at e) qs v (decimal-bytes 255 (partAt deck at e) ∙ g))
+        rw (z, put) (rest-next (most - (n + 1)) (partsOf p) (partAt deck at e) qs v (decimal-bytes partLimit (partAt deck at e) ∙ g))
 
     pub path-last : end ≤ e → pathField most (partAt deck start end) ≡ some (partsOf r)
     path-last k =
@@ -172,5 +174,5 @@ module _ (deck : List ℕ) (start end most : ℕ) (p : Path) (n at e : ℕ) (fit
           size = rw (put, length-append, w .size);
           left =
               w .left ∙ ap (pathRest (most - n) (partsOf p)) (next-part deck 46 at end e fits x k)
-              ∙ more (parts 46 (e + 1) (between deck (e + 1) end));
+              ∙ more (parts 46 (e + 1) (between (e + 1) end deck));
         }

@@ -34,11 +34,6 @@ module _ {A : Type 0} where
   elem-each P (x ∷ l) zero a f h = subst P (Option·some-injective x a h) (f .0)
   elem-each P (x ∷ l) (suc i) a f h = elem-each P l i a (f .1) h
 
-  pub each-take : (P : A → Type 0) (n : ℕ) (l : List A) → Each P l → Each P (take n l)
-  each-take P zero l f = tt
-  each-take P (suc n) [] f = tt
-  each-take P (suc n) (x ∷ l) f = (f .0, each-take P n l (f .1))
-
   -- one more open, at this depth
   pub opened-at : (l : List A) (d : ℕ) (a : A) → d < length l → take (d + 1) (set l d a) ≡ take d l ++ (a ∷ [])
   opened-at l d a h = rw (add-one d) (take-suc-set l d a h)

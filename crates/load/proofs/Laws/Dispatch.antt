@@ -1,5 +1,6 @@
--- What a line that was read leads to, by its kind. Assumes nothing.
+-- What a line that was read gives, by its kind. Assumes nothing.
 use mathlib.Core.Path.{_≡_}
+use Rattle.tables.specs.SetCells.{setIs}
 use Rattle.tables.specs.Texts.{textFrom}
 use Rattle.deck.specs.Answers.{typeIs, groupIs, rowIs, fileIs, lineIs}
 use Rattle.deck.specs.Load.{Loading, refused, form, given, _>>=_, loadT, loadG, loadS, loadF, loadM, loadB, loadE, loadC, loadLine}
@@ -12,41 +13,41 @@ use Rattle.deck.specs.declared.lines.FileCells.{FileCells}
 use Rattle.deck.specs.declared.lines.ElementCells.{ElementCells}
 use Rattle.deck.specs.declared.lines.TextCells.{TextCells}
 use Rattle.tables.specs.declared.numbers.FileNumber.{FileNumber}
-use Rattle.load.specs.Lines.{lineLeads}
+use Rattle.load.specs.Lines.{lineResult}
 
 module _ (l : Loading) (line : program.Line) where
-  pub leads-t : (c : TypeCells) → line ≡ T c → lineLeads l (lineIs line) ≡ loadT l (c .ty .0) (typeIs c)
+  pub result-t : (c : TypeCells) → line ≡ T c → lineResult l (lineIs line) ≡ loadT l (c .ty .0) (typeIs c)
   unfolding lineIs given _>>=_ loadLine
-  leads-t c e = rw e
+  result-t c e = rw e
 
-  pub leads-g : (c : GroupCells) → line ≡ G c → lineLeads l (lineIs line) ≡ loadG l (groupIs c)
+  pub result-g : (c : GroupCells) → line ≡ G c → lineResult l (lineIs line) ≡ loadG l (groupIs c)
   unfolding lineIs given _>>=_ loadLine
-  leads-g c e = rw e
+  result-g c e = rw e
 
-  pub leads-s : (c : RowCells) → line ≡ S c → lineLeads l (lineIs line) ≡ loadS l (rowIs c)
+  pub result-s : (c : RowCells) → line ≡ S c → lineResult l (lineIs line) ≡ loadS l (rowIs c)
   unfolding lineIs given _>>=_ loadLine
-  leads-s c e = rw e
+  result-s c e = rw e
 
-  pub leads-f : (c : FileCells) → line ≡ F c → lineLeads l (lineIs line) ≡ loadF l (fileIs c)
+  pub result-f : (c : FileCells) → line ≡ F c → lineResult l (lineIs line) ≡ loadF l (fileIs c)
   unfolding lineIs given _>>=_ loadLine
-  leads-f c e = rw e
+  result-f c e = rw e
 
-  pub leads-m : line ≡ M → lineLeads l (lineIs line) ≡ loadM l
+  pub result-m : line ≡ M → lineResult l (lineIs line) ≡ loadM l
   unfolding lineIs given _>>=_ loadLine
-  leads-m e = rw e
+  result-m e = rw e
 
-  pub leads-b : (f : FileNumber) → line ≡ B f → lineLeads l (lineIs line) ≡ loadB l (f .0)
+  pub result-b : (f : FileNumber) → line ≡ B f → lineResult l (lineIs line) ≡ loadB l (f .0)
   unfolding lineIs given _>>=_ loadLine
-  leads-b f e = rw e
+  result-b f e = rw e
 
-  pub leads-e : (c : ElementCells) → line ≡ E c → lineLeads l (lineIs line) ≡ loadE l (c .depth) (c .name .0) (c .set .0)
+  pub result-e : (c : ElementCells) → line ≡ E c → lineResult l (lineIs line) ≡ loadE l (c .depth) (c .name .0) (setIs (c .set))
   unfolding lineIs given _>>=_ loadLine
-  leads-e c e = rw e
+  result-e c e = rw e
 
-  pub leads-c : (c : TextCells) → line ≡ C c → lineLeads l (lineIs line) ≡ loadC l (c .depth) (textFrom (c .kind) (c .value))
+  pub result-c : (c : TextCells) → line ≡ C c → lineResult l (lineIs line) ≡ loadC l (c .depth) (textFrom (c .kind) (c .value))
   unfolding lineIs given _>>=_ loadLine
-  leads-c c e = rw e
+  result-c c e = rw e
 
-  pub leads-bad : line ≡ Bad → lineLeads l (lineIs line) ≡ refused form
+  pub result-bad : line ≡ Bad → lineResult l (lineIs line) ≡ refused form
   unfolding lineIs given _>>=_ loadLine
-  leads-bad e = rw e
+  result-bad e = rw e

@@ -1,4 +1,4 @@
--- E lines: what they lead to, and what stays of the lines so far. Assumes nothing.
+-- E lines: what they give, and what stays of the lines so far. Assumes nothing.
 use mathlib.Core.Bool.{Bool, true, false, _&&_, _||_}
 use mathlib.Core.List.{List, [], _∷_, _++_}
 use mathlib.Core.Option.{Option, none, some}
@@ -11,20 +11,20 @@ use lib.ListN.{length, getD, take, set, length-append, length-set}
 use lib.Seq.{length-take-le, take-take}
 use Rattle.tables.specs.Cells.{Each}
 use Rattle.tables.specs.Limits.{elementLimit, depthLimit, itemLimit}
-use Rattle.tables.specs.Records.{Element, Name, TypeNumber, FileSet, SubElement, Mask, Schema, child, Elements, Model, addElement, addToModel, contentItems}
+use Rattle.tables.specs.Records.{Element, Name, TypeNumber, FileSet, SubElement, child, Elements, Model, addElement, addToModel, contentItems}
 use Rattle.tables.specs.ElementsTable.{elementsOf, SizedElements, HoldsElements}
 use Rattle.tables.specs.ModelTable.{countOf, modelOf, GoodModel, HoldsModel}
 use Rattle.tables.specs.SchemaTable.{schemaOf, noSubElement}
 use Rattle.deck.specs.Load.{Loading, Res, ok, refused, schemaRule, treeRule, limit, putContent, owner, rootSetRule, setRule, nextElement, append, loadRoot, loadChild, loadE}
-use Rattle.deck.specs.Schema.{declaredType, findSubElement, allVersions}
-use Rattle.load.specs.Lines.{openLimit, loadingOf, LoadingFits, GoodLoading, Steps}
+use Rattle.deck.specs.Schema.{declaredType, rowOfName}
+use Rattle.load.specs.Lines.{openLimit, loadingOf, LoadingFits, GoodLoading, StepResult}
 use Rattle.load.specs.declared.progress.Progress.{Progress}
 use Rattle.load.specs.declared.progress.Verdict.the-variants.{Taken}
 use Rattle.load.specs.declared.progress.Step.{Step}
-use Rattle.tables.proofs.Laws.Cells.{each-append, each-imp, each-getD}
+use Rattle.tables.proofs.Laws.Cells.{each-append, each-imp, each-getD, each-take}
 use Rattle.tables.proofs.Laws.Model.{count-add, total-add}
 use Rattle.deck.proofs.Laws.Load.{owner-within, append-added, count-append, total-append}
-use Rattle.load.proofs.Laws.Above.{each-take, opened-at, owner-element}
+use Rattle.load.proofs.Laws.Above.{opened-at, owner-element}
 use Rattle.load.proofs.Laws.Steps.{line-taken}
 use Rattle.load.proofs.Laws.Results.{passes, fails, finds, misses}
 
@@ -52,12 +52,6 @@ child-held xs ys zs q s p e e′ g range same held item =
           ∙ ap (λ (x : Element). append (addToModel (modelOf xs) q s) p (child x)) same
           ∙ append-added (modelOf xs) p (child e′) q s (omega (arith, g .sized .lists));
     }
-
--- ---- the row of a child
-
-pub row-of : (sc : Schema) (t u : TypeNumber) (n : Name) (mask : Mask) (o : Option SubElement) → t ≡ u → findSubElement sc t n mask ≡ o
-    → findSubElement sc u n mask ≡ o
-row-of sc t u n mask o same e = ap (λ (x : TypeNumber). findSubElement sc x n mask) (sym same) ∙ e
 
 -- ---- types of the lines so far
 
@@ -164,7 +158,7 @@ module _ (l : Loading) (d : ℕ) (n : Name) (s : FileSet) where
   -- ---- a child
 
   abbrev foundRow : Element → Option SubElement
-  foundRow p = findSubElement (l .schema) (getD (l .elements .types) p 0) n allVersions
+  foundRow p = rowOfName (l .schema) (getD (l .elements .types) p 0) n
 
   pub child-alone : owner l d ≡ none → loadChild l d n s ≡ refused treeRule
   unfolding loadChild
@@ -255,7 +249,7 @@ module _ (s : Step) (p : Progress) (schema elements model : List ℕ) (g : GoodL
 
   element-line : (d : ℕ) (e : Element) (above : List Element) (es : Elements) (m : Model) (o : Res Loading) → s .progress ≡ after d e
       → d < openLimit → take (d + 1) (set (p .above) d e) ≡ above → HoldsElements elements′ es → HoldsModel model′ m
-      → LoadingFits (putContent l above es m) → o ≡ ok (putContent l above es m) → Steps s schema elements′ model′ o
+      → LoadingFits (putContent l above es m) → o ≡ ok (putContent l above es m) → StepResult s schema elements′ model′ o
   unfolding putContent
   element-line d e above es m o to low opens he hm fits is =
       let same : loadingOf (after d e) schema elements′ model′ ≡ putContent l above es m =
@@ -275,7 +269,7 @@ module _ (s : Step) (p : Progress) (schema elements model : List ℕ) (g : GoodL
 
   pub root-line : (d : ℕ) (n : Name) (x : FileSet) (e : Element) → s .progress ≡ after 0 e → e ≡ length (elementsOf elements .names) → d ≡ 0 → n ≡ 0
       → declaredType (schemaOf schema) 0 ≡ true → rootSetRule l x ≡ true → HoldsElements elements′ (addElement (elementsOf elements) 0 0 0)
-      → HoldsModel model′ (addToModel (modelOf model) none x) → Steps s schema elements′ model′ (loadRoot l d n x)
+      → HoldsModel model′ (addToModel (modelOf model) none x) → StepResult s schema elements′ model′ (loadRoot l d n x)
   unfolding nextElement
   root-line d n x e to next top unnamed typed part he hm =
       let opens : take (0 + 1) (set (p .above) 0 e) ≡ length (elementsOf elements .names) ∷ [] =
@@ -285,11 +279,11 @@ module _ (s : Step) (p : Progress) (schema elements model : List ℕ) (g : GoodL
       opens he hm (fits-root l (g .fits) x typed) (root-taken l d n x top unnamed typed part)
 
   pub child-line : (d : ℕ) (n : Name) (x : FileSet) (o : Element) (row : SubElement) (e : Element) (t : TypeNumber) → s .progress ≡ after d e
-      → e ≡ length (elementsOf elements .names) → t ≡ row .childType → d < openLimit → owner l d ≡ some o → findSubElement (schemaOf schema) (getD (elementsOf elements .types) o 0) n allVersions ≡ some row
+      → e ≡ length (elementsOf elements .names) → t ≡ row .childType → d < openLimit → owner l d ≡ some o → rowOfName (schemaOf schema) (getD (elementsOf elements .types) o 0) n ≡ some row
       → row .childType < length (schemaOf schema .types) → setRule l x ≡ true
       → HoldsElements elements′ (addElement (elementsOf elements) n t d)
       → HoldsModel model′ (addToModel (append (modelOf model) o (child (length (elementsOf elements .names)))) (some o) x)
-      → Steps s schema elements′ model′ (loadChild l d n x)
+      → StepResult s schema elements′ model′ (loadChild l d n x)
   unfolding nextElement
   child-line d n x o row e t to next type low owns found typed part he hm =
       let last = length (elementsOf elements .names) in

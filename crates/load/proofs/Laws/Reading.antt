@@ -1,5 +1,5 @@
 -- The loop over the lines: what is left, from what the lines so far gave, is the whole load. Assumes nothing.
-use mathlib.Core.Bool.{Bool, true, false}
+use mathlib.Core.Bool.{true, false}
 use mathlib.Core.List.{List, [], _∷_}
 use mathlib.Core.Path.{_≡_, refl, sym, ap, _∙_}
 use Prim.Native.Nat.{ℕ, zero, suc, _+_, _≤_, _<_}
@@ -10,15 +10,16 @@ use lib.ListN.{length, getD, drop, replicate}
 use lib.Seq.{drop-length}
 use Rattle.tables.specs.Limits.{deckLimit, fileLimit}
 use Rattle.tables.specs.Records.{File, Tree, contentItems}
-use Rattle.tables.specs.ElementsTable.{elementsOf, GoodElements, HoldsElements}
+use Rattle.tables.specs.ElementsTable.{HoldsElements}
 use Rattle.tables.specs.Lists.{anyOf, sum}
-use Rattle.tables.specs.ModelTable.{countOf, modelOf, flat, GoodModel, HoldsModel}
-use Rattle.tables.specs.SchemaTable.{schemaOf, GoodSchema, HoldsSchema}
-use Rattle.deck.specs.Answers.{between, partAt, Next, lineIs, LineReads}
+use Rattle.tables.specs.ModelTable.{HoldsModel}
+use Rattle.tables.specs.SchemaTable.{HoldsSchema}
+use Rattle.tables.specs.Cells.{between}
+use Rattle.deck.specs.Answers.{partAt, Next, lineIs, LineReads}
 use Rattle.deck.specs.Deck.{Part, parts, lines, readLine}
-use Rattle.deck.specs.Load.{Loading, Res, ok, refused, Load, refusedAt, form, treeRule, limit, given, _>>=_, nothing, loadLine, loadLines, finish, load}
+use Rattle.deck.specs.Load.{Loading, Res, ok, refused, Load, refusedAt, form, treeRule, limit, nothing, loadLines, finish, load}
 use Rattle.deck.proofs.Laws.Parts.{parts-some, between-cons, next-line, last-line}
-use Rattle.load.specs.Lines.{openLimit, loadingOf, taken, LoadingFits, GoodLoading, lineLeads, verdictIs, Steps}
+use Rattle.load.specs.Lines.{openLimit, loadingOf, taken, LoadingFits, GoodLoading, lineResult, verdictIs, StepResult}
 use Rattle.load.specs.LoadCall.{answerIs, Loads}
 use Rattle.load.specs.declared.load.Answer.{Answer}
 use Rattle.load.specs.declared.load.Answer.the-variants.{Loaded, Refused as RefusedAnswer}
@@ -34,8 +35,8 @@ unfolding taken anyOf
 taken-none number zero = refl
 taken-none number (suc n) = taken-none number n
 
-abbrev pub startsAt : Progress
-startsAt = record { latest = 0; seen = false; due = false; depth = 0; above = replicate 32 0 }
+abbrev pub firstProgress : Progress
+firstProgress = record { latest = 0; seen = false; due = false; depth = 0; above = replicate openLimit 0 }
 
 fits-nothing : LoadingFits nothing
 unfolding contentItems sum
@@ -61,7 +62,7 @@ pub record Reading (deck : List ℕ) (p : Progress) (at n : ℕ) (schema element
   pub is : loadLines deck n (parts 10 at (drop at deck)) (loadingOf p schema elements model) ≡ load deck
 
 pub reading-start : (deck schema elements model : List ℕ) (p : Progress) → length deck ≤ deckLimit → HoldsSchema schema (nothing .schema)
-    → HoldsElements elements (nothing .elements) → HoldsModel model (nothing .model) → p ≡ startsAt → Reading deck p 0 0 schema elements model
+    → HoldsElements elements (nothing .elements) → HoldsModel model (nothing .model) → p ≡ firstProgress → Reading deck p 0 0 schema elements model
 unfolding load lines
 reading-start deck schema elements model p h s e m z =
     let l : loadingOf p schema elements model ≡ nothing = rw (z, s .is, e .is, m .is) in
@@ -87,7 +88,7 @@ abbrev onward : List ℕ → ℕ → List Part → Res Loading → Load
 onward deck n qs o = elim o [ ok l ↦ loadLines deck (suc n) qs l | refused r ↦ refusedAt r (suc n) ]
 
 load-next : (deck : List ℕ) (n : ℕ) (p : Part) (qs : List Part) (l : Loading) → 0 < length qs
-    → loadLines deck n (p ∷ qs) l ≡ onward deck n qs (lineLeads l (readLine p))
+    → loadLines deck n (p ∷ qs) l ≡ onward deck n qs (lineResult l (readLine p))
 unfolding loadLines
 load-next deck n p [] l h = absurd (omega arith)
 load-next deck n p (q ∷ qs) l h = refl
@@ -105,7 +106,7 @@ module _ (deck : List ℕ) (p : Progress) (at n : ℕ) (schema elements model : 
       record {
         is =
             rw (add-one n)
-            (sym (load-last deck n (partAt deck at e) (getD deck at 0) (between deck (at + 1) e) (loadingOf p schema elements model)
+            (sym (load-last deck n (partAt deck at e) (getD deck at 0) (between (at + 1) e deck) (loadingOf p schema elements model)
             (between-cons deck at e (omega arith) (next .within)))
             ∙ ap (λ (ps : List Part). loadLines deck n ps (loadingOf p schema elements model)) (sym (last-line deck 10 at e next k)) ∙ r .is);
         goodSchema = r .good .goodSchema;
@@ -113,7 +114,7 @@ module _ (deck : List ℕ) (p : Progress) (at n : ℕ) (schema elements model : 
         goodModel = r .good .goodModel;
       }
 
-  module _ (line : program.Line) (s : Step) (schema′ elements′ model′ : List ℕ) (h : e < length deck) (read : LineReads line (readLine (partAt deck at e))) (led : Steps s schema′ elements′ model′ (lineLeads (loadingOf p schema elements model) (lineIs line))) where
+  module _ (line : program.Line) (s : Step) (schema′ elements′ model′ : List ℕ) (h : e < length deck) (read : LineReads line (readLine (partAt deck at e))) (led : StepResult s schema′ elements′ model′ (lineResult (loadingOf p schema elements model) (lineIs line))) where
     whole : onward deck n (parts 10 (e + 1) (drop (e + 1) deck)) (verdictIs (s .verdict) (loadingOf (s .progress) schema′ elements′ model′)) ≡ load deck
     whole =
         rw (led .is, read .is)

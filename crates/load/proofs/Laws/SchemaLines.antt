@@ -2,25 +2,25 @@
 use mathlib.Core.Bool.{Bool, true, false, false≢true}
 use mathlib.Core.List.{List, [], _∷_, _++_}
 use mathlib.Core.Path.{_≡_, refl, sym, ap, _∙_}
-use Prim.Native.Nat.{ℕ, _+_, _≤_, _<_}
+use Prim.Native.Nat.{ℕ, _≤_, _<_}
 use native.Mathlib.Omega.{arith}
 use borrow.Author.Tests.{ltb-true, lt-ltb, le-ltb, le-leb, lt-leb, eq-eqb, ne-eqb}
-use lib.Dec.{eqb, ltb}
-use lib.ListN.{length, getD, drop, length-append}
+use lib.Dec.{eqb, leb, ltb}
+use lib.ListN.{length, length-append}
 use Rattle.tables.specs.Limits.{typeLimit, groupLimit, rowLimit, fileLimit}
 use Rattle.tables.specs.Lists.{anyOf, allOf}
 use Rattle.tables.specs.Records.{TypeNumber, TypeRow, Group, SubElement, File, Schema, addType, addGroup, addSubElement, addFile}
-use Rattle.tables.specs.SchemaTable.{noFile, schemaOf, HoldsSchema}
+use Rattle.tables.specs.SchemaTable.{schemaOf, HoldsSchema}
 use Rattle.tables.proofs.Laws.Cells.{each-append, each-imp}
 use Rattle.deck.specs.Load.{Loading, Res, ok, refused, form, schemaRule, limit, kindT, kindG, kindS, kindF, need, _>>=_, putSchema, loadT, loadG, loadS, loadF}
 use Rattle.deck.specs.Schema.{groupRule, subElementRule}
-use Rattle.deck.proofs.Laws.Texts.{all-more, all-stop, all-end}
 use Rattle.schema_calls.specs.Calls.{groupsAbove, rowsAbove}
-use Rattle.schema_calls.proofs.Laws.Schemas.{groups-all, rowsAbove-all}
-use Rattle.load.specs.Lines.{loadingOf, LoadingFits, GoodLoading, Steps}
+use Rattle.schema_calls.proofs.Laws.Schemas.{groups-all, rows-all}
+use Rattle.load.specs.Lines.{loadingOf, LoadingFits, GoodLoading, StepResult}
 use Rattle.load.specs.declared.progress.Progress.{Progress}
 use Rattle.load.specs.declared.progress.Step.{Step}
 use Rattle.load.specs.declared.progress.Verdict.the-variants.{Taken}
+use Rattle.load.proofs.Laws.Results.{passes, fails}
 use Rattle.load.proofs.Laws.Steps.{line-taken}
 use Rattle.load.proofs.Laws.Taken.{taken-more}
 
@@ -44,56 +44,51 @@ module _ (l : Loading) (t : TypeNumber) (row : TypeRow) where
   unfolding loadT need _>>=_
   t-taken h e k = rw (le-leb (l .latest) kindT h, eq-eqb t (length (l .schema .types)) e, lt-ltb t typeLimit k)
 
--- ---- G
+-- ---- G and S: a row in the order of the kinds, below its limit, by its rule
 
-module _ (l : Loading) (g : Group) where
-  pub g-late : kindG < l .latest → loadG l g ≡ refused form
-  unfolding loadG need _>>=_
-  g-late h = rw (lt-leb (l .latest) kindG h)
+module _ (l : Loading) (kind count most : ℕ) (rule : Bool) (sc : Schema) where
+  unfoldable pub ruledRow : Res Loading
+  ruledRow = do
+    _ ← need form (leb (l .latest) kind)
+    _ ← need limit (ltb count most)
+    _ ← need schemaRule rule
+    ok (putSchema l kind sc)
 
-  pub g-limit : l .latest ≤ kindG → groupLimit ≤ length (l .schema .groups) → loadG l g ≡ refused limit
-  unfolding loadG need _>>=_
-  g-limit h k = rw (le-leb (l .latest) kindG h, le-ltb (length (l .schema .groups)) groupLimit k)
+  pub row-late : kind < l .latest → ruledRow ≡ refused form
+  unfolding ruledRow
+  row-late h = fails _ _ (lt-leb (l .latest) kind h)
 
-  pub g-rule : l .latest ≤ kindG → length (l .schema .groups) < groupLimit → groupRule (l .schema) g ≡ false → loadG l g ≡ refused schemaRule
-  unfolding loadG need _>>=_
-  g-rule h k r = rw (le-leb (l .latest) kindG h, lt-ltb (length (l .schema .groups)) groupLimit k, r)
+  module _ (early : l .latest ≤ kind) where
+    pub row-limit : most ≤ count → ruledRow ≡ refused limit
+    unfolding ruledRow
+    row-limit h = passes _ _ (le-leb (l .latest) kind early) (fails _ _ (le-ltb count most h))
 
-  pub g-taken : l .latest ≤ kindG → length (l .schema .groups) < groupLimit → groupRule (l .schema) g ≡ true
-      → loadG l g ≡ ok (putSchema l kindG (addGroup (l .schema) g))
-  unfolding loadG need _>>=_
-  g-taken h k r = rw (le-leb (l .latest) kindG h, lt-ltb (length (l .schema .groups)) groupLimit k, r)
+    pub row-broken : count < most → rule ≡ false → ruledRow ≡ refused schemaRule
+    unfolding ruledRow
+    row-broken h r = passes _ _ (le-leb (l .latest) kind early) (passes _ _ (lt-ltb count most h) (fails _ _ r))
 
--- where all groups stand above
+    pub row-taken : count < most → rule ≡ true → ruledRow ≡ ok (putSchema l kind sc)
+    unfolding ruledRow
+    row-taken h r = passes _ _ (le-leb (l .latest) kind early) (passes _ _ (lt-ltb count most h) (passes _ _ r refl))
+
+pub g-row : (l : Loading) (g : Group)
+    → loadG l g ≡ ruledRow l kindG (length (l .schema .groups)) groupLimit (groupRule (l .schema) g) (addGroup (l .schema) g)
+unfolding loadG ruledRow
+g-row l g = refl
+
+pub s-row : (l : Loading) (r : SubElement)
+    → loadS l r ≡ ruledRow l kindS (length (l .schema .subElements)) rowLimit (subElementRule (l .schema) r) (addSubElement (l .schema) r)
+unfolding loadS ruledRow
+s-row l r = refl
+
+-- a rule over all that is above the end
 pub group-rule-is : (sc : Schema) (n : ℕ) (g : Group) (r b : Bool) → n ≡ length (sc .groups) → r ≡ groupRule (groupsAbove sc n) g → r ≡ b
     → groupRule sc g ≡ b
 group-rule-is sc n g r b e h k = ap (λ (above : Schema). groupRule above g) (sym (groups-all sc n e)) ∙ sym h ∙ k
 
--- ---- S
-
-module _ (l : Loading) (r : SubElement) where
-  pub s-late : kindS < l .latest → loadS l r ≡ refused form
-  unfolding loadS need _>>=_
-  s-late h = rw (lt-leb (l .latest) kindS h)
-
-  pub s-limit : l .latest ≤ kindS → rowLimit ≤ length (l .schema .subElements) → loadS l r ≡ refused limit
-  unfolding loadS need _>>=_
-  s-limit h k = rw (le-leb (l .latest) kindS h, le-ltb (length (l .schema .subElements)) rowLimit k)
-
-  pub s-rule : l .latest ≤ kindS → length (l .schema .subElements) < rowLimit → subElementRule (l .schema) r ≡ false
-      → loadS l r ≡ refused schemaRule
-  unfolding loadS need _>>=_
-  s-rule h k e = rw (le-leb (l .latest) kindS h, lt-ltb (length (l .schema .subElements)) rowLimit k, e)
-
-  pub s-taken : l .latest ≤ kindS → length (l .schema .subElements) < rowLimit → subElementRule (l .schema) r ≡ true
-      → loadS l r ≡ ok (putSchema l kindS (addSubElement (l .schema) r))
-  unfolding loadS need _>>=_
-  s-taken h k e = rw (le-leb (l .latest) kindS h, lt-ltb (length (l .schema .subElements)) rowLimit k, e)
-
--- where all rows stand above
 pub row-rule-is : (sc : Schema) (n : ℕ) (a : SubElement) (r b : Bool) → n ≡ length (sc .subElements) → r ≡ subElementRule (rowsAbove sc n) a → r ≡ b
     → subElementRule sc a ≡ b
-row-rule-is sc n a r b e h k = ap (λ (above : Schema). subElementRule above a) (sym (ap (rowsAbove sc) e ∙ rowsAbove-all sc)) ∙ sym h ∙ k
+row-rule-is sc n a r b e h k = ap (λ (above : Schema). subElementRule above a) (sym (rows-all sc n e)) ∙ sym h ∙ k
 
 -- ---- F
 
@@ -112,21 +107,6 @@ module _ (l : Loading) (d : File) where
   pub f-taken : l .latest ≤ kindF → below ≡ true → loadF l d ≡ ok (putSchema l kindF (addFile (l .schema) d))
   unfolding loadF need _>>=_
   f-taken h e = rw (le-leb (l .latest) kindF h, e)
-
--- the search for a file that is not below: what is left gives the whole
-module _ (n : ℕ) (l : List File) (i : ℕ) where
-  abbrev test : File → Bool
-  test d = ltb (d .file) n
-
-  pub below-more : (f : ℕ) → i < length l → f ≡ getD l i noFile .file → f < n → allOf test (drop i l) ≡ allOf test l
-      → allOf test (drop (i + 1) l) ≡ allOf test l
-  below-more f h e k all = sym (all-more test l i noFile h (rw (← e) (lt-ltb f n k))) ∙ all
-
-  pub below-stop : (f : ℕ) → i < length l → f ≡ getD l i noFile .file → n ≤ f → allOf test (drop i l) ≡ allOf test l → false ≡ allOf test l
-  below-stop f h e k all = sym (all-stop test l i noFile h (rw (← e) (le-ltb f n k))) ∙ all
-
-  pub below-end : length l ≤ i → allOf test (drop i l) ≡ allOf test l → true ≡ allOf test l
-  below-end h all = sym (all-end test l i h) ∙ all
 
 -- a number above all others is new
 pub below-new : {A : Type 0} (number : A → ℕ) (n : ℕ) (l : List A) → allOf (λ (a : A). ltb (number a) n) l ≡ true
@@ -221,7 +201,7 @@ put-schema p kind schema schema′ elements model sc e = rw e
 pub step-schema : (p : Progress) (s : Step) (schema schema′ elements model : List ℕ) (o : Res Loading) (kind : ℕ) (sc : Schema)
     → (s .verdict ≡ Taken) × (s .progress ≡ afterKind p kind) → GoodLoading p schema elements model → HoldsSchema schema′ sc
     → LoadingFits (putSchema (loadingOf p schema elements model) kind sc) → o ≡ ok (putSchema (loadingOf p schema elements model) kind sc)
-    → Steps s schema′ elements model o
+    → StepResult s schema′ elements model o
 step-schema p s schema schema′ elements model o kind sc told g h fits is =
     line-taken s (afterKind p kind) schema′ elements model o (putSchema (loadingOf p schema elements model) kind sc) told
     (put-schema p kind schema schema′ elements model sc (h .is))

@@ -1,20 +1,20 @@
--- A line's answer with the tables: a refused line leaves all as it was, a taken one leads to what the rules say. Assumes nothing.
+-- A line's answer with the tables: a refused line leaves all as it was, a taken one gives what the rules say. Assumes nothing.
 use mathlib.Core.List.{List}
-use mathlib.Core.Path.{_≡_, refl, sym, ap, _∙_, subst}
+use mathlib.Core.Path.{_≡_, sym, ap, _∙_, subst}
 use Prim.Native.Nat.{ℕ, _≤_}
 use lib.ListN.{length}
 use Rattle.tables.specs.ElementsTable.{GoodElements}
 use Rattle.tables.specs.ModelTable.{GoodModel}
 use Rattle.tables.specs.SchemaTable.{GoodSchema}
 use Rattle.deck.specs.Load.{Loading, Res, ok, refused}
-use Rattle.load.specs.Lines.{openLimit, loadingOf, LoadingFits, GoodLoading, verdictIs, Steps}
+use Rattle.load.specs.Lines.{openLimit, loadingOf, LoadingFits, GoodLoading, verdictIs, StepResult}
 use Rattle.load.specs.declared.progress.Progress.{Progress}
 use Rattle.load.specs.declared.progress.Verdict.the-variants.{Taken, Refused}
 use Rattle.load.specs.declared.progress.Step.{Step}
 
 module _ (s : Step) (p : Progress) (schema elements model : List ℕ) (o : Res Loading) where
   pub line-refused : (n : ℕ) → (s .verdict ≡ Refused n) × (s .progress ≡ p) → GoodLoading p schema elements model → o ≡ refused n
-      → Steps s schema elements model o
+      → StepResult s schema elements model o
   unfolding verdictIs
   line-refused n told g e =
       record {
@@ -24,7 +24,7 @@ module _ (s : Step) (p : Progress) (schema elements model : List ℕ) (o : Res L
 
   pub line-taken : (l : Loading) → (s .verdict ≡ Taken) × (s .progress ≡ p) → loadingOf p schema elements model ≡ l → p .depth ≤ openLimit
       → length (p .above) ≡ openLimit → GoodSchema schema → GoodElements elements → GoodModel model → LoadingFits l → o ≡ ok l
-      → Steps s schema elements model o
+      → StepResult s schema elements model o
   unfolding verdictIs
   line-taken l told is depth room gs ge gm fits e =
       let g : GoodLoading p schema elements model =
@@ -40,6 +40,6 @@ module _ (s : Step) (p : Progress) (schema elements model : List ℕ) (o : Res L
       }
 
 -- the same, as another rule has it
-pub line-as : {s : Step} {schema elements model : List ℕ} {o o′ : Res Loading} → o ≡ o′ → Steps s schema elements model o′
-    → Steps s schema elements model o
-line-as {s} {schema} {elements} {model} e h = subst (Steps s schema elements model) (sym e) h
+pub line-as : {s : Step} {schema elements model : List ℕ} {o o′ : Res Loading} → o ≡ o′ → StepResult s schema elements model o′
+    → StepResult s schema elements model o
+line-as {s} {schema} {elements} {model} e h = subst (StepResult s schema elements model) (sym e) h

@@ -8,7 +8,7 @@ use borrow.Author.Tests.{eqb-true, eqb-false, ne-eqb}
 use lib.Dec.{eqb}
 use lib.ListN.{length, length-append}
 use Rattle.tables.specs.Lists.{anyOf}
-use Rattle.schema_calls.proofs.Laws.Scans.{any-snoc-false, any-snoc-true}
+use Rattle.tables.proofs.Laws.Scans.{any-snoc-false, any-snoc-true}
 use Rattle.load.specs.Lines.{taken}
 
 abbrev counted : Bool → ℕ → ℕ

@@ -16,7 +16,7 @@ use Rattle.tables.specs.SchemaTable.{schemaOf, modeNumber, modeFrom}
 use Rattle.deck.specs.Load.{Loading, ok, refused, treeRule, limit, putContent, owner, append, takesText, loadC}
 use Rattle.tables.proofs.Laws.SchemaTable.{mode-back}
 use Rattle.deck.proofs.Laws.Load.{count-append, total-append}
-use Rattle.load.specs.Lines.{loadingOf, LoadingFits, GoodLoading, Steps}
+use Rattle.load.specs.Lines.{loadingOf, LoadingFits, GoodLoading, StepResult}
 use Rattle.load.specs.declared.progress.Progress.{Progress}
 use Rattle.load.specs.declared.progress.Verdict.the-variants.{Taken}
 use Rattle.load.specs.declared.progress.Step.{Step}
@@ -120,7 +120,7 @@ pub c-line : (s : Step) (p : Progress) (schema elements model elements′ model�
     → takesText (typeRow (schemaOf schema) (getD (elementsOf elements .types) o 0) .mode) ≡ true
     → HoldsElements elements′ (addText (elementsOf elements) t)
     → HoldsModel model′ (append (modelOf model) o (text (length (elementsOf elements .texts))))
-    → Steps s schema elements′ model′ (loadC (loadingOf p schema elements model) d t)
+    → StepResult s schema elements′ model′ (loadC (loadingOf p schema elements model) d t)
 unfolding putContent
 c-line s p schema elements model elements′ model′ g told d t o low room due owns takes he hm =
     let l = loadingOf p schema elements model in

@@ -1,4 +1,4 @@
--- M and B lines: what they lead to, and what stays of the lines so far. Assumes nothing.
+-- M and B lines: what they give, and what stays of the lines so far. Assumes nothing.
 use mathlib.Core.Bool.{Bool, true, false, not, _&&_}
 use mathlib.Core.List.{List}
 use mathlib.Core.Path.{_≡_, refl, ap, _∙_}
@@ -15,7 +15,7 @@ use Rattle.deck.specs.Load.{Loading, ok, refused, form, treeRule, kindM, kindB,
 use Rattle.deck.specs.Schema.{declaresFile, declaredFiles}
 use Rattle.deck.proofs.Laws.Load.{wait-new}
 use Rattle.tables.specs.ElementsTable.{elementsOf, HoldsElements}
-use Rattle.load.specs.Lines.{loadingOf, LoadingFits, GoodLoading, Steps}
+use Rattle.load.specs.Lines.{loadingOf, LoadingFits, GoodLoading, StepResult}
 use Rattle.load.specs.declared.progress.Progress.{Progress}
 use Rattle.load.specs.declared.progress.Verdict.the-variants.{Taken}
 use Rattle.load.specs.declared.progress.Step.{Step}
@@ -146,7 +146,7 @@ module _ (s : Step) (p : Progress) (schema elements model : List ℕ) (g : GoodL
   abbrev after : ℕ → Bool → Progress
   after kind seen = record { latest = kind; seen = seen; due = true; depth = 0; above = p .above }
 
-  pub m-line : s .progress ≡ after kindM true → p .latest < kindM → Steps s schema elements model (loadM l)
+  pub m-line : s .progress ≡ after kindM true → p .latest < kindM → StepResult s schema elements model (loadM l)
   unfolding openTree
   m-line to h =
       line-taken s (after kindM true) schema elements model (loadM l) (openTree l kindM true (elementsOf elements)) (told, to) refl (omega arith)
@@ -154,7 +154,7 @@ module _ (s : Step) (p : Progress) (schema elements model : List ℕ) (g : GoodL
 
   pub b-line : (f : FileNumber) (elements′ : List ℕ) → s .progress ≡ after kindB (p .seen) → f < fileLimit → p .due ≡ false → mayWait l f ≡ true
       → HoldsElements elements′ (addTree (elementsOf elements) (record { file = f; root = length (elementsOf elements .names) }))
-      → Steps s schema elements′ model (loadB l f)
+      → StepResult s schema elements′ model (loadB l f)
   unfolding openTree
   b-line f elements′ to small due new held =
       let es = addTree (elementsOf elements) (record { file = f; root = length (elementsOf elements .names) }) in

@@ -14,20 +14,21 @@ use lib.Seq.{getD-at, take-take, take-length, length-take-le}
 use Rattle.tables.specs.Bytes.{bytes}
 use Rattle.tables.specs.Limits.{depthLimit}
 use Rattle.tables.specs.Records.{Element, Name, FileNumber, FileSet, SubElement, Schema, Text, enumNumber, Tree, Item, child, text, Model, Fixed, root, depthOf, textOf, listOf, addTree, addElement, addText, addToModel, insertItem, putList}
+use Rattle.tables.proofs.Laws.Cases.{bool-case}
 use Rattle.deck.specs.Deck.{Line, T, G, S, F, M, B, E, C}
 use Rattle.deck.specs.Load.{Loading, nothing, kindT, kindG, kindS, kindF, kindM, putSchema, openTree, putContent, loadT, loadG, loadS, loadF, loadM, mayWait, loadB, owner, nextElement, append, loadRoot, loadChild, loadE, loadC, loadLine}
 use Rattle.merge_rules.specs.DeckLines.{lineDepth, mayFollow}
 use Rattle.merge_rules.specs.Program.{decimalOf, hexadecimalOf, lineOf, textLine, itemLines, elementLines}
-use Rattle.merge_rules.specs.Sound.{count, ItemFits}
+use Rattle.merge_rules.specs.Sound.{count, ItemInRange}
 use Rattle.deck.proofs.Laws.Load.{owner-within}
-use Rattle.merge_rules.proofs.Laws.Cases.{bool-case, IfOk, isOk, need-bind, given-bind}
+use Rattle.merge_rules.proofs.Laws.Cases.{IfOk, isOk, need-bind, given-bind}
 use Rattle.merge_rules.proofs.Laws.Forest.{Head, headB, heads, forest, forest-snoc, heads-snoc, Earlier, forest-same, forest-put}
-use Rattle.merge_rules.proofs.Laws.Growing.{text-line, grown-item, item-put, grown-text, grown-trees, grown-element, new-line, grown-twice}
+use Rattle.merge_rules.proofs.Laws.Growing.{text-line-same, grown-item, item-put, grown-text, grown-trees, grown-element, new-line, grown-twice}
 use Rattle.merge_rules.proofs.Laws.LinesBack.{Back}
 use Rattle.merge_rules.proofs.Laws.Lists.{each-nil, each-snoc, getD-snoc-default}
-use Rattle.merge_rules.proofs.Laws.Loaded.{treeOpened, rootAdded, childAdded, textAdded, fixedOf, Complete, Stage, schemaOnly, modelDue, noModel, complete, treeDue, Going, owner-open, limits}
-use Rattle.merge_rules.proofs.Laws.Loading.{New, withElement, withTexts}
-use Rattle.merge_rules.proofs.Laws.Rightmost.{Grown, ItemsFit, Link, Open, first, open-take, open-step}
+use Rattle.merge_rules.proofs.Laws.Loaded.{treeOpened, rootAdded, childAdded, textAdded, fixedOf, Complete, Stage, schemaOnly, modelDue, modelMissing, complete, treeDue, LoadingSound, owner-open, limits}
+use Rattle.merge_rules.proofs.Laws.Loading.{NewElement, withElement, withTexts}
+use Rattle.merge_rules.proofs.Laws.Rightmost.{Grown, ItemsInRange, Link, Open, first, open-take, open-step}
 
 -- ---- fronts of the open elements
 
@@ -51,8 +52,8 @@ module _ (deck : List ℕ) where
 
   -- ---- what holds behind each line
 
-  -- an M or B line stands last: the trees before it are printed, and it
-  pub record Due (l : Loading) (printed : List ℕ) : Type 0 where
+  -- the latest line is an M or B line: the trees before it are printed, and it
+  pub record RootDue (l : Loading) (printed : List ℕ) : Type 0 where
     pub earlier : List Head
     pub line : List ℕ
     pub trees : heads (l .elements .trees) ≡ earlier ++ (record { line = line; root = count (fix l) } ∷ [])
@@ -62,10 +63,10 @@ module _ (deck : List ℕ) where
     pub parents : length (l .model .parents) ≡ count (fix l)
     pub sets : length (l .model .sets) ≡ count (fix l)
     pub lists : length (l .model .lists) ≡ count (fix l)
-    pub items : ItemsFit (fix l) (l .model)
+    pub items : ItemsInRange (fix l) (l .model)
 
-  -- all trees are printed; reach: how many of the open elements stand last; latest: the latest line
-  pub record Live (l : Loading) (latest : Line) (printed : List ℕ) : Type 0 where
+  -- all trees are printed; reach: how many of the open elements are last in their lists; latest: the latest line
+  pub record TreesPrinted (l : Loading) (latest : Line) (printed : List ℕ) : Type 0 where
     pub earlier : List Head
     pub line : List ℕ
     pub top : Element
@@ -79,17 +80,17 @@ module _ (deck : List ℕ) where
     pub begins : first (take reach (l .above)) top ≡ top
     pub may : (next : Line) → mayFollow latest next ≡ true → lineDepth next ≤ length (l .above) → lineDepth next ≤ reach
 
-  -- an M line stands
-  pub record Phase (l : Loading) (latest : Line) (printed : List ℕ) : Type 0 where
+  -- an M line was read
+  pub record PrintedSoFar (l : Loading) (latest : Line) (printed : List ℕ) : Type 0 where
     pub seen : l .modelSeen ≡ true
     pub kind : kindM ≤ l .latest
-    pub at : ((l .rootDue ≡ true) × Due l printed) ⊎ ((l .rootDue ≡ false) × Live l latest printed)
+    pub at : ((l .rootDue ≡ true) × RootDue l printed) ⊎ ((l .rootDue ≡ false) × TreesPrinted l latest printed)
 
   complete-of : {l : Loading} → Stage deck l → l .modelSeen ≡ true → l .rootDue ≡ false → Complete deck l
   unfolding putSchema openTree
   complete-of (schemaOnly k sc h) seen r = absurd (false≢true seen)
   complete-of (modelDue k sc) seen r = absurd (true≢false r)
-  complete-of (noModel h g) seen r = absurd (false≢true (sym g ∙ seen))
+  complete-of (modelMissing h g) seen r = absurd (false≢true (sym g ∙ seen))
   complete-of (complete g) seen r = g
   complete-of (treeDue l f g w) seen r = absurd (true≢false r)
 
@@ -107,7 +108,7 @@ module _ (deck : List ℕ) where
     front : take reach (l′ .above) ≡ take (suc d) (l .above) ++ tail
     may : (later : Line) → mayFollow next later ≡ true → lineDepth later ≤ length (l′ .above) → lineDepth later ≤ reach
 
-  module _ (l l′ : Loading) (latest next : Line) (printed : List ℕ) (d : ℕ) (p : Element) (i : Item) (v : Live l latest printed) (c : Complete deck l)
+  module _ (l l′ : Loading) (latest next : Line) (printed : List ℕ) (d : ℕ) (p : Element) (i : Item) (v : TreesPrinted l latest printed) (c : Complete deck l)
       (follows : mayFollow latest next ≡ true) (deep : lineDepth next ≡ suc d) (o : getElem? (l .above) d ≡ some p) (u : Puts l l′ d p i next) where
     abbrev x : Fixed
     x = fix l
@@ -139,9 +140,9 @@ module _ (deck : List ℕ) where
         u .front ∙ ap (λ (w : List Element). w ++ u .tail) (take-some (l .above) d p o) ∙ append-assoc as′ (p ∷ []) (u .tail)
 
     -- the item's lines are printed behind all others
-    put-live : (k : ℕ) → d + k ≡ depthLimit
-        → Live l′ next (printed ++ itemLines (elementLines k (fix l′) (l′ .model)) (fix l′) (suc d) (i ∷ []))
-    put-live k levels =
+    put-printed : (k : ℕ) → d + k ≡ depthLimit
+        → TreesPrinted l′ next (printed ++ itemLines (elementLines k (fix l′) (l′ .model)) (fix l′) (suc d) (i ∷ []))
+    put-printed k levels =
         let lower : Element → List ℕ = elementLines k (fix l′) (l′ .model) in
         let all : Element → List Head = λ t. v .earlier ++ (record { line = v .line; root = t } ∷ []) in
         let behind : forest (fix l′) (l′ .model) (all (first as′ p)) ≡ forest x (l .model) (all (first as′ p)) ++ itemLines lower (fix l′) (suc (length as′)) (i ∷ []) =
@@ -187,20 +188,20 @@ module _ (deck : List ℕ) where
         let e : Element = count x in
         let m : Model = l .model in
         let q : Model = append m p (child e) in
-        let new : New = record { name = n; type = row .childType; depth = suc d; parent = some p; set = s } in
+        let new : NewElement = record { name = n; type = row .childType; depth = suc d; parent = some p; set = s } in
         let put : listOf (addToModel q (some p) s) p ≡ listOf m p ++ (child e ∷ []) =
         getD-snoc-default (q .lists) [] p ∙ item-put x m p (child e) (rw (c .built .kept .lists) range) in
         record {
           grown =
               grown-twice (le-refl _) (grown-item x m p (child e))
-              (grown-element x q p new (l .elements .trees) (c .built .depths) (c .built .kept .parents) (c .built .kept .sets));
+              (grown-element x q p new (l .elements .trees) (c .built .elements .depths) (c .built .kept .parents) (c .built .kept .sets));
           put = put;
           trees = refl;
           tail = e ∷ [];
           link = record { front = listOf m p; is = put };
           opens = (
             rw length-append (omega arith),
-            getD-at (l .elements .depths) (suc d) [] 0 e (c .built .depths) ∙ deeper,
+            getD-at (l .elements .depths) (suc d) [] 0 e (c .built .elements .depths) ∙ deeper,
             getD-at (m .parents) (some p) [] none e (c .built .kept .parents),
             tt,
             tt,
@@ -228,38 +229,38 @@ module _ (deck : List ℕ) where
           may = λ later f _. leb-true (lineDepth later) (suc d) f;
         }
 
-    module _ (latest : Line) (printed : List ℕ) (v : Live l latest printed) where
-      child-live : (n : Name) (s : FileSet) (row : SubElement) → mayFollow latest (E (suc d) n s) ≡ true → suc d ≤ depthLimit
-          → Live (childAdded l (suc d) n s p row) (E (suc d) n s)
+    module _ (latest : Line) (printed : List ℕ) (v : TreesPrinted l latest printed) where
+      child-printed : (n : Name) (s : FileSet) (row : SubElement) → mayFollow latest (E (suc d) n s) ≡ true → suc d ≤ depthLimit
+          → TreesPrinted (childAdded l (suc d) n s p row) (E (suc d) n s)
           (printed ++ lineOf (bytes "E" ∷ decimalOf (suc d) ∷ decimalOf n ∷ hexadecimalOf s ∷ []))
       unfolding owner lineDepth putContent addElement nextElement addToModel append insertItem putList itemLines
-      child-live n s row follows low =
+      child-printed n s row follows low =
           let x : Fixed = fix l in
           let e : Element = count x in
           let q : Model = append (l .model) p (child e) in
-          let new : New = record { name = n; type = row .childType; depth = suc d; parent = some p; set = s } in
+          let new : NewElement = record { name = n; type = row .childType; depth = suc d; parent = some p; set = s } in
           let l′ : Loading = childAdded l (suc d) n s p row in
           let few : length (q .lists) ≤ count x = simp length-set (omega (arith, c .built .kept .lists)) in
-          subst (λ (r : List ℕ). Live l′ (E (suc d) n s) (printed ++ r))
+          subst (λ (r : List ℕ). TreesPrinted l′ (E (suc d) n s) (printed ++ r))
           (append-nil _
-          ∙ new-line x q p new (l .elements .trees) (c .built .depths) (c .built .kept .parents) (c .built .kept .sets) (depthLimit - suc d) few)
-          (put-live l l′ latest (E (suc d) n s) printed d p (child e) v c follows refl o (child-puts n s row) (suc (depthLimit - suc d)) (omega arith))
+          ∙ new-line x q p new (l .elements .trees) (c .built .elements .depths) (c .built .kept .parents) (c .built .kept .sets) (depthLimit - suc d) few)
+          (put-printed l l′ latest (E (suc d) n s) printed d p (child e) v c follows refl o (child-puts n s row) (suc (depthLimit - suc d)) (omega arith))
 
-      text-live : (t : Text) → mayFollow latest (C (suc d) t) ≡ true → suc d ≤ depthLimit
-          → Live (textAdded l t p) (C (suc d) t) (printed ++ textLine (fix l) (suc d) t)
+      text-printed : (t : Text) → mayFollow latest (C (suc d) t) ≡ true → suc d ≤ depthLimit
+          → TreesPrinted (textAdded l t p) (C (suc d) t) (printed ++ textLine (fix l) (suc d) t)
       unfolding owner lineDepth putContent addText append insertItem putList itemLines
-      text-live t follows low =
+      text-printed t follows low =
           let x′ : Fixed = withTexts (fix l) (l .elements .texts ++ (t ∷ [])) in
           let l′ : Loading = textAdded l t p in
           let k : ℕ = length (l .elements .texts) in
-          subst (λ (r : List ℕ). Live l′ (C (suc d) t) (printed ++ r))
-          (append-nil _ ∙ text-line (fix l) x′ refl (suc d) (textOf x′ k) ∙ ap (textLine (fix l) (suc d)) (getD-at (l .elements .texts) t [] (enumNumber 0) k refl))
-          (put-live l l′ latest (C (suc d) t) printed d p (text k) v c follows refl o (text-puts t) (depthLimit - d) (omega arith))
+          subst (λ (r : List ℕ). TreesPrinted l′ (C (suc d) t) (printed ++ r))
+          (append-nil _ ∙ text-line-same (fix l) x′ refl (suc d) (textOf x′ k) ∙ ap (textLine (fix l) (suc d)) (getD-at (l .elements .texts) t [] (enumNumber 0) k refl))
+          (put-printed l l′ latest (C (suc d) t) printed d p (text k) v c follows refl o (text-puts t) (depthLimit - d) (omega arith))
 
   -- ---- M, B and roots
 
   -- an M line
-  pub model-due : (k : ℕ) (sc : Schema) → Due (openTree (putSchema nothing k sc) kindM true (nothing .elements)) (lineOf (bytes "M" ∷ []))
+  pub model-due : (k : ℕ) (sc : Schema) → RootDue (openTree (putSchema nothing k sc) kindM true (nothing .elements)) (lineOf (bytes "M" ∷ []))
   unfolding openTree putSchema forest
   model-due k sc =
       record {
@@ -276,8 +277,8 @@ module _ (deck : List ℕ) where
       }
 
   -- a B line
-  tree-due : (l : Loading) (latest : Line) (printed : List ℕ) → Live l latest printed → Complete deck l → (f : FileNumber)
-      → Due (treeOpened l f) (printed ++ lineOf (bytes "B" ∷ decimalOf f ∷ []))
+  tree-due : (l : Loading) (latest : Line) (printed : List ℕ) → TreesPrinted l latest printed → Complete deck l → (f : FileNumber)
+      → RootDue (treeOpened l f) (printed ++ lineOf (bytes "B" ∷ decimalOf f ∷ []))
   unfolding openTree addTree
   tree-due l latest printed v c f =
       let x : Fixed = fix l in
@@ -294,25 +295,25 @@ module _ (deck : List ℕ) where
         is =
             ap (λ (r : List ℕ). r ++ lineOf (bytes "B" ∷ decimalOf f ∷ []))
             (v .is ∙ sym (forest-same (grown-trees x (l .model) (count x) (l .elements .trees ++ (t ∷ []))) (c .built .kept .items) all below));
-        depths = c .built .depths;
+        depths = c .built .elements .depths;
         parents = c .built .kept .parents;
         sets = c .built .kept .sets;
         lists = c .built .kept .lists;
         items = λ p i h. item-kept i (c .built .kept .items p i h);
       }
     where
-      item-kept : (i : Item) → ItemFits (fix l) i → ItemFits (fix (treeOpened l f)) i
+      item-kept : (i : Item) → ItemInRange (fix l) i → ItemInRange (fix (treeOpened l f)) i
       item-kept (child e) h = h
       item-kept (text t) h = h
 
   -- the E line of a root
-  root-live : (l : Loading) (printed : List ℕ) → Due l printed → (d : ℕ) (n : Name) (s : FileSet) → d ≡ 0 → n ≡ 0
-      → Live (rootAdded l s) (E d n s) (printed ++ lineOf (bytes "E" ∷ decimalOf d ∷ decimalOf n ∷ hexadecimalOf s ∷ []))
+  root-printed : (l : Loading) (printed : List ℕ) → RootDue l printed → (d : ℕ) (n : Name) (s : FileSet) → d ≡ 0 → n ≡ 0
+      → TreesPrinted (rootAdded l s) (E d n s) (printed ++ lineOf (bytes "E" ∷ decimalOf d ∷ decimalOf n ∷ hexadecimalOf s ∷ []))
   unfolding putContent nextElement addElement addToModel mayFollow
-  root-live l printed u d n s zeroDepth zeroName =
+  root-printed l printed u d n s zeroDepth zeroName =
       let x : Fixed = fix l in
       let m : Model = l .model in
-      let new : New = record { name = 0; type = 0; depth = 0; parent = none; set = s } in
+      let new : NewElement = record { name = 0; type = 0; depth = 0; parent = none; set = s } in
       let trees : List Tree = l .elements .trees in
       let g = grown-element x m (count x) new trees (u .depths) (u .parents) (u .sets) in
       let x′ : Fixed = withElement x new trees in
@@ -345,66 +346,66 @@ module _ (deck : List ℕ) where
 
   -- ---- each line
 
-  module _ {l : Loading} {latest : Line} {printed : List ℕ} (g : Going deck l) (ph : Phase l latest printed) where
-    now-due : l .rootDue ≡ true → Due l printed
+  module _ {l : Loading} {latest : Line} {printed : List ℕ} (g : LoadingSound deck l) (ph : PrintedSoFar l latest printed) where
+    now-due : l .rootDue ≡ true → RootDue l printed
     now-due r = ⊎-elim (λ k. k .1) (λ k. absurd (true≢false (sym r ∙ k .0))) (ph .at)
 
-    now-live : l .rootDue ≡ false → Live l latest printed × Complete deck l
-    now-live r = ⊎-elim (λ k. absurd (true≢false (sym (k .0) ∙ r))) (λ k. (k .1, complete-of (g .stage) (ph .seen) r)) (ph .at)
+    now-printed : l .rootDue ≡ false → TreesPrinted l latest printed × Complete deck l
+    now-printed r = ⊎-elim (λ k. absurd (true≢false (sym (k .0) ∙ r))) (λ k. (k .1, complete-of (g .stage) (ph .seen) r)) (ph .at)
 
     -- schema lines are refused
     too-late : (k : ℕ) → k < kindM → leb (l .latest) k ≡ true → ⊥
     too-late k low t = omega (arith, leb-true (l .latest) k t, ph .kind)
 
-    child-phase : (d : ℕ) (n : Name) (s : FileSet) (row : SubElement) (p : Element) → l .rootDue ≡ false → mayFollow latest (E d n s) ≡ true → owner l d ≡ some p
+    child-step : (d : ℕ) (n : Name) (s : FileSet) (row : SubElement) (p : Element) → l .rootDue ≡ false → mayFollow latest (E d n s) ≡ true → owner l d ≡ some p
         → d ≤ depthLimit
-        → Phase (childAdded l d n s p row) (E d n s) (printed ++ lineOf (bytes "E" ∷ decimalOf d ∷ decimalOf n ∷ hexadecimalOf s ∷ []))
+        → PrintedSoFar (childAdded l d n s p row) (E d n s) (printed ++ lineOf (bytes "E" ∷ decimalOf d ∷ decimalOf n ∷ hexadecimalOf s ∷ []))
     unfolding putContent owner
-    child-phase zero n s row p r f o low = absurd (Option·none-ne-some p o)
-    child-phase (suc d) n s row p r f o low =
-        let (v, c) = now-live r in
-        record { seen = ph .seen; kind = ph .kind; at = inr (refl, child-live l c d p o latest printed v n s row f low) }
+    child-step zero n s row p r f o low = absurd (Option·none-ne-some p o)
+    child-step (suc d) n s row p r f o low =
+        let (v, c) = now-printed r in
+        record { seen = ph .seen; kind = ph .kind; at = inr (refl, child-printed l c d p o latest printed v n s row f low) }
 
-    text-phase : (d : ℕ) (t : Text) (p : Element) → l .rootDue ≡ false → mayFollow latest (C d t) ≡ true → owner l d ≡ some p → d ≤ depthLimit
-        → Phase (textAdded l t p) (C d t) (printed ++ textLine (fix l) d t)
+    text-step : (d : ℕ) (t : Text) (p : Element) → l .rootDue ≡ false → mayFollow latest (C d t) ≡ true → owner l d ≡ some p → d ≤ depthLimit
+        → PrintedSoFar (textAdded l t p) (C d t) (printed ++ textLine (fix l) d t)
     unfolding putContent owner
-    text-phase zero t p r f o low = absurd (Option·none-ne-some p o)
-    text-phase (suc d) t p r f o low =
-        let (v, c) = now-live r in
-        record { seen = ph .seen; kind = ph .kind; at = inr (refl, text-live l c d p o latest printed v t f low) }
+    text-step zero t p r f o low = absurd (Option·none-ne-some p o)
+    text-step (suc d) t p r f o low =
+        let (v, c) = now-printed r in
+        record { seen = ph .seen; kind = ph .kind; at = inr (refl, text-printed l c d p o latest printed v t f low) }
 
-    root-phase : (d : ℕ) (n : Name) (s : FileSet) → l .rootDue ≡ true → (eqb d 0 && eqb n 0) ≡ true
-        → Phase (rootAdded l s) (E d n s) (printed ++ lineOf (bytes "E" ∷ decimalOf d ∷ decimalOf n ∷ hexadecimalOf s ∷ []))
+    root-step : (d : ℕ) (n : Name) (s : FileSet) → l .rootDue ≡ true → (eqb d 0 && eqb n 0) ≡ true
+        → PrintedSoFar (rootAdded l s) (E d n s) (printed ++ lineOf (bytes "E" ∷ decimalOf d ∷ decimalOf n ∷ hexadecimalOf s ∷ []))
     unfolding putContent
-    root-phase d n s r z =
+    root-step d n s r z =
         let (zeroDepth, zeroName) = and-eq-true-iff (eqb d 0) (eqb n 0) .0 z in
         record {
           seen = ph .seen;
           kind = ph .kind;
-          at = inr (refl, root-live l printed (now-due r) d n s (eqb-true d 0 zeroDepth) (eqb-true n 0 zeroName));
+          at = inr (refl, root-printed l printed (now-due r) d n s (eqb-true d 0 zeroDepth) (eqb-true n 0 zeroName));
         }
 
-    tree-phase : (f : FileNumber) → l .rootDue ≡ false → Phase (treeOpened l f) (B f) (printed ++ lineOf (bytes "B" ∷ decimalOf f ∷ []))
+    tree-step : (f : FileNumber) → l .rootDue ≡ false → PrintedSoFar (treeOpened l f) (B f) (printed ++ lineOf (bytes "B" ∷ decimalOf f ∷ []))
     unfolding openTree
-    tree-phase f r = let (v, c) = now-live r in record { seen = ph .seen; kind = lit≤ tt; at = inl (refl, tree-due l latest printed v c f) }
+    tree-step f r = let (v, c) = now-printed r in record { seen = ph .seen; kind = lit≤ tt; at = inl (refl, tree-due l latest printed v c f) }
 
     -- what is printed has the line's bytes at its end
-    pub phase-line : (line : Line) → mayFollow latest line ≡ true → (bs : List ℕ) → Back (fix l) bs line
-        → IfOk (λ (l′ : Loading). Phase l′ line (printed ++ bs)) (loadLine l line)
+    pub line-step : (line : Line) → mayFollow latest line ≡ true → (bs : List ℕ) → Back (fix l) bs line
+        → IfOk (λ (l′ : Loading). PrintedSoFar l′ line (printed ++ bs)) (loadLine l line)
     unfolding loadLine loadT loadG loadS loadF loadM loadB loadE loadC loadRoot loadChild
-    phase-line (T t r) f bs e = need-bind _ _ (λ _ h. absurd (too-late kindT (lit< tt) (and-eq-true-iff (leb (l .latest) kindT) _ .0 h .0)))
-    phase-line (G r) f bs e = need-bind _ _ (λ _ h. absurd (too-late kindG (lit< tt) h))
-    phase-line (S r) f bs e = need-bind _ _ (λ _ h. absurd (too-late kindS (lit< tt) h))
-    phase-line (F r) f bs e = need-bind _ _ (λ _ h. absurd (too-late kindF (lit< tt) (and-eq-true-iff (leb (l .latest) kindF) _ .0 h .0)))
-    phase-line M f bs e = need-bind _ _ (λ _ _. need-bind _ _ (λ _ h. absurd (omega (arith, ltb-true (l .latest) kindM h, ph .kind))))
-    phase-line (B k) f bs e =
-        need-bind _ _ (λ _ h. isOk (rw e (tree-phase k (not-true _ (and-eq-true-iff (not (l .rootDue)) (mayWait l k) .0 h .0)))))
-    phase-line (E d n s) f bs e =
+    line-step (T t r) f bs e = need-bind _ _ (λ _ h. absurd (too-late kindT (lit< tt) (and-eq-true-iff (leb (l .latest) kindT) _ .0 h .0)))
+    line-step (G r) f bs e = need-bind _ _ (λ _ h. absurd (too-late kindG (lit< tt) h))
+    line-step (S r) f bs e = need-bind _ _ (λ _ h. absurd (too-late kindS (lit< tt) h))
+    line-step (F r) f bs e = need-bind _ _ (λ _ h. absurd (too-late kindF (lit< tt) (and-eq-true-iff (leb (l .latest) kindF) _ .0 h .0)))
+    line-step M f bs e = need-bind _ _ (λ _ _. need-bind _ _ (λ _ h. absurd (omega (arith, ltb-true (l .latest) kindM h, ph .kind))))
+    line-step (B k) f bs e =
+        need-bind _ _ (λ _ h. isOk (rw e (tree-step k (not-true _ (and-eq-true-iff (not (l .rootDue)) (mayWait l k) .0 h .0)))))
+    line-step (E d n s) f bs e =
         need-bind _ _ (λ _ h.
-        bool-case (IfOk (λ (l′ : Loading). Phase l′ (E d n s) (printed ++ bs))) (l .rootDue)
-        (λ r. need-bind _ _ (λ _ z. need-bind _ _ (λ _ _. need-bind _ _ (λ _ _. isOk (rw e (root-phase d n s r z))))))
+        bool-case (IfOk (λ (l′ : Loading). PrintedSoFar l′ (E d n s) (printed ++ bs))) (l .rootDue)
+        (λ r. need-bind _ _ (λ _ z. need-bind _ _ (λ _ _. need-bind _ _ (λ _ _. isOk (rw e (root-step d n s r z))))))
         (λ r.
-        given-bind _ _ (λ p o. given-bind _ _ (λ row _. need-bind _ _ (λ _ _. isOk (rw e (child-phase d n s row p r f o (limits deck l d h .0))))))))
-    phase-line (C d t) f bs e =
+        given-bind _ _ (λ p o. given-bind _ _ (λ row _. need-bind _ _ (λ _ _. isOk (rw e (child-step d n s row p r f o (limits deck l d h .0))))))))
+    line-step (C d t) f bs e =
         need-bind _ _ (λ _ h. need-bind _ _ (λ _ r. given-bind _ _ (λ p o. need-bind _ _ (λ _ _.
-        isOk (rw e (text-phase d t p (not-true _ r) f o (leb-true d depthLimit (and-eq-true-iff (leb d depthLimit) _ .0 h .0))))))))
+        isOk (rw e (text-step d t p (not-true _ r) f o (leb-true d depthLimit (and-eq-true-iff (leb d depthLimit) _ .0 h .0))))))))

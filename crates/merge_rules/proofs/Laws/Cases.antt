@@ -3,21 +3,17 @@ use mathlib.Core.Bool.{Bool, true, false, _&&_, and-eq-true-iff}
 use mathlib.Core.List.{List, [], _∷_}
 use mathlib.Core.Logic.{_⊎_, inl, inr}
 use mathlib.Core.Option.{Option, none, some, bind, Option·none-ne-some, Option·some-injective}
-use mathlib.Core.Path.{_≡_, refl, sym, subst}
+use mathlib.Core.Path.{_≡_, refl, subst}
 use Prim.Native.Nat.{ℕ}
 use borrow.Author.Tests.{eqb-true, eqb-false}
 use lib.Dec.{eqb}
 use Rattle.tables.specs.Records.{Element, State}
+use Rattle.tables.proofs.Laws.Cases.{bool-split}
 use Rattle.deck.specs.Load.{Res, ok, refused as notOk, _>>=_ as bindRes, need, given}
 use Rattle.merge_rules.specs.Range.{Range, places, noRow, conflicting}
 use Rattle.merge_rules.specs.Refusals.{Refusal, Outcome, done, conflict, refused, _>>=_}
 
 -- ---- tests
-
--- a claim by the two values of a test
-pub bool-split {ℓ} : {A : Type ℓ} (b : Bool) → (b ≡ true → A) → (b ≡ false → A) → A
-bool-split true h k = h refl
-bool-split false h k = k refl
 
 -- a number is another or is not
 pub same-or-other : (a b : ℕ) → (a ≡ b) ⊎ (a ≡ b → ⊥)
@@ -33,11 +29,6 @@ and-three a b c h =
 -- ---- choices
 
 module _ {ℓ κ} {A : Type ℓ} (P : A → Type κ) where
-  -- a choice by a test
-  pub bool-case : (b : Bool) {u v : A} → (b ≡ true → P u) → (b ≡ false → P v) → P (elim b [ true ↦ u | false ↦ v ])
-  bool-case true h k = h refl
-  bool-case false h k = k refl
-
   -- a choice by whether there is a value
   pub option-case : {B : Type 0} (o : Option B) {u : A} {v : B → A} → (o ≡ none → P u) → ((b : B) → o ≡ some b → P (v b))
       → P (elim o [ none ↦ u | some b ↦ v b ])
@@ -140,20 +131,20 @@ ok-both isNotOk k f = isNotOk
 -- ---- steps of a merge
 
 -- D holds of the state where the outcome is done, C where it is a conflict
-pub data Result (D C : State → Type 0) : Outcome → Type 0 where
-  isDone : {t : State} → D t → Result D C (done t)
-  isConflict : {e : Element} {t : State} → C t → Result D C (conflict e t)
-  isRefused : {r : Refusal} → Result D C (refused r)
+pub data IfDone (D C : State → Type 0) : Outcome → Type 0 where
+  isDone : {t : State} → D t → IfDone D C (done t)
+  isConflict : {e : Element} {t : State} → C t → IfDone D C (conflict e t)
+  isRefused : {r : Refusal} → IfDone D C (refused r)
 
 module _ {D D′ C : State → Type 0} where
   -- what follows of the state
-  pub done-map : {o : Outcome} → ((t : State) → D t → D′ t) → Result D C o → Result D′ C o
+  pub done-map : {o : Outcome} → ((t : State) → D t → D′ t) → IfDone D C o → IfDone D′ C o
   done-map f (isDone {t} h) = isDone (f t h)
   done-map f (isConflict h) = isConflict h
   done-map f isRefused = isRefused
 
   -- a step more, from the state
-  pub done-bind : {o : Outcome} {f : State → Outcome} → Result D C o → ((t : State) → D t → Result D′ C (f t)) → Result D′ C (o >>= f)
+  pub done-bind : {o : Outcome} {f : State → Outcome} → IfDone D C o → ((t : State) → D t → IfDone D′ C (f t)) → IfDone D′ C (o >>= f)
   unfolding _>>=_
   done-bind (isDone {t} h) k = k t h
   done-bind (isConflict h) k = isConflict h

@@ -56,9 +56,9 @@ module _ (x : Fixed) {m : Model} (deep : Deep x m) where
       ⊎-elim (λ w. same-depth e w) (λ w. sym (same-depth (sym e) w)) (comparable u v)
 
 -- the model and a tree have nothing in common
-pub tree-apart : {x : Fixed} {s : State} → Inv x s → (t : Tree) → In t (x .elements .trees) → {p : Element} → Under (s .model) root p
+pub tree-disjoint : {x : Fixed} {s : State} → Inv x s → (t : Tree) → In t (x .elements .trees) → {p : Element} → Under (s .model) root p
     → Under (s .model) (t .root) p → ⊥
-tree-apart inv t i h k = inv .static .trees t i .apart (sym (one-top h k (inv .rootTop) (inv .treeTop t i)))
+tree-disjoint inv t i h k = inv .sound .static .trees .valid t i .notRoot (sym (one-top h k (inv .rootTop) (inv .treeTop t i)))
 
 -- a chain of parents that two models have in common
 pub data Common (m m′ : Model) (r : Element) : Element → Type 0 where

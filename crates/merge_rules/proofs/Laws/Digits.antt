@@ -8,10 +8,11 @@ use native.Mathlib.Nat.{mod-eq-of-lt, div-eq-of-lt, mul-add-div-right, mul-add-m
 use native.Mathlib.Omega.{arith}
 use borrow.Author.Tests.{ltb-true, ltb-false, leb-true, leb-false, eqb-false, lt-ltb, le-ltb}
 use lib.Dec.{eqb, leb, ltb}
+use Rattle.tables.proofs.Laws.Cases.{bool-split, bool-case}
 use Rattle.deck.specs.Deck.{Part, digit, valueFrom, plain, only, number}
 use Rattle.deck.proofs.Laws.Numbers.{digit-below, digit-decimal, digit-between, digit-letter, digit-above}
 use Rattle.merge_rules.specs.Program.{digitByte, digitsBefore}
-use Rattle.merge_rules.proofs.Laws.Cases.{bool-split, bool-case, IfSome, isSome, isNone, some-map, some-bind}
+use Rattle.merge_rules.proofs.Laws.Cases.{IfSome, isSome, isNone, some-map, some-bind}
 
 -- a byte below the radix is the byte of its worth
 digit-back : (b : ℕ) → digit b < 16 → digitByte (digit b) ≡ b

@@ -12,7 +12,7 @@ use Rattle.merge_rules.specs.DeckLines.{treeLines, waitingLines, treesLi
 use Rattle.merge_rules.specs.Program.{decimalOf, lineOf, itemLines, elementLines, modelLines}
 use Rattle.merge_rules.specs.Sound.{In, count}
 use Rattle.merge_rules.proofs.Laws.Loading.{Built}
-use Rattle.merge_rules.proofs.Laws.Rightmost.{Grown, ItemsFit, lines-kept, Open, first, open-range, open-same, Away, away-lines, fuel, put-lines}
+use Rattle.merge_rules.proofs.Laws.Rightmost.{Grown, ItemsInRange, lines-kept, Open, first, first-in, first-deep, open-range, open-same, NotOpen, not-open-lines, fuel, put-lines}
 
 -- a tree: the line that opens it, and its root
 pub record Head : Type 0 where
@@ -72,7 +72,7 @@ Earlier x hs most = (h : Head) → In h hs → (h .root < most) × (depthOf x (h
 -- ---- a change that puts no item into a list
 
 -- trees of elements so far print as before
-pub forest-same : {x : Fixed} {m : Model} {x′ : Fixed} {m′ : Model} → Grown x m x′ m′ (count x) → ItemsFit x m → (hs : List Head) → Earlier x hs (count x)
+pub forest-same : {x : Fixed} {m : Model} {x′ : Fixed} {m′ : Model} → Grown x m x′ m′ (count x) → ItemsInRange x m → (hs : List Head) → Earlier x hs (count x)
     → forest x′ m′ hs ≡ forest x m hs
 forest-same {x} {m} {x′} {m′} g fit hs below =
     forest-kept x x′ m m′ hs (λ h i.
@@ -88,14 +88,6 @@ open-last : (x : Fixed) (m : Model) (p : Element) (as′ : List Element) (d : �
 open-last x m p [] d o h = omega (arith, h .1)
 open-last x m p (a ∷ as′) d o h = omega (arith, open-last x m p as′ (suc d) (some a) (h .4))
 
-first-in : (p : Element) (as′ : List Element) → In (first as′ p) (as′ ++ (p ∷ []))
-first-in p [] = List·Memᴰ·head refl
-first-in p (a ∷ as′) = List·Memᴰ·head refl
-
-first-deep : (x : Fixed) (m : Model) (p : Element) (as′ : List Element) (d : ℕ) (o : Option Element) → Open x m d o (as′ ++ (p ∷ [])) → depthOf x (first as′ p) ≡ d
-first-deep x m p [] d o h = h .1
-first-deep x m p (a ∷ as′) d o h = h .1
-
 module _ {x : Fixed} {m : Model} {x′ : Fixed} {m′ : Model} {p : Element} {above : List Element} (g : Grown x m x′ m′ p) (b : Built x m above)
     (as′ : List Element) (o : Open x m 0 none (as′ ++ (p ∷ []))) (i : Item) (put : listOf m′ p ≡ listOf m p ++ (i ∷ [])) where
   abbrev w : List Element
@@ -104,7 +96,7 @@ module _ {x : Fixed} {m : Model} {x′ : Fixed} {m′ : Model} {p : Element} {ab
   abbrev a : Element
   a = first as′ p
 
-  -- the item's lines stand behind all others
+  -- the item's lines are behind all others
   pub forest-put : (hs : List Head) (line : List ℕ) (k : ℕ) → length as′ + k ≡ depthLimit → Earlier x hs (first as′ p)
       → forest x′ m′ (hs ++ (record { line = line; root = first as′ p } ∷ []))
       ≡ forest x m (hs ++ (record { line = line; root = first as′ p } ∷ [])) ++ itemLines (elementLines k x′ m′) x′ (suc (length as′)) (i ∷ [])
@@ -113,7 +105,7 @@ module _ {x : Fixed} {m : Model} {x′ : Fixed} {m′ : Model} {p : Element} {ab
       let last : depthOf x p ≡ length as′ = omega (arith, open-last x m p as′ 0 none o) in
       let deep : suc (depthOf x p) ≡ length w = rw length-append (omega arith) in
       let levels′ : fuel as′ k ≡ suc depthLimit = omega (arith, fuel-is as′ k) in
-      let away : (h : Head) → In h hs → Away g b w o (h .root) =
+      let outside : (h : Head) → In h hs → NotOpen g b w o (h .root) =
       λ h j. (
         omega (arith, below h j .0, open-range x m 0 none w o a (first-in p as′)),
         λ k.
@@ -121,7 +113,7 @@ module _ {x : Fixed} {m : Model} {x′ : Fixed} {m′ : Model} {p : Element} {ab
             omega (arith, below h j .0),
       ) in
       let kept : forest x′ m′ hs ≡ forest x m hs =
-      forest-kept x x′ m m′ hs (λ h j. away-lines g b w o at (suc depthLimit) (h .root) (away h j)) in
+      forest-kept x x′ m m′ hs (λ h j. not-open-lines g b w o at (suc depthLimit) (h .root) (outside h j)) in
       let more : elementLines (suc depthLimit) x′ m′ a ≡ elementLines (suc depthLimit) x m a ++ itemLines (elementLines k x′ m′) x′ (suc (length as′)) (i ∷ []) =
       rw (← levels′, ← last) (put-lines g b w o i put deep as′ 0 none k o (λ c j. j)) in
       forest-snoc x′ m′ hs (record { line = line; root = a })

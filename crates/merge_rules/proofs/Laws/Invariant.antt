@@ -3,10 +3,9 @@
 use mathlib.Core.Bool.{false}
 use mathlib.Core.Option.{none, some}
 use mathlib.Core.Path.{_≡_}
-use Prim.Native.Nat.{_<_}
 use Rattle.tables.specs.FileSets.{holds, loadedFiles}
-use Rattle.tables.specs.Records.{Element, Tree, child, Model, State, Fixed, root, parentOf, setOf, listOf}
-use Rattle.merge_rules.specs.Sound.{In, Static, Kept}
+use Rattle.tables.specs.Records.{Element, Tree, child, Model, State, Fixed, root, parentOf, listOf}
+use Rattle.merge_rules.specs.Sound.{In, Sound}
 
 -- p is r, or its chain of parents reaches r
 pub data Under (m : Model) (r : Element) : Element → Type 0 where
@@ -21,9 +20,7 @@ Owns m p = (e : Element) → In (child e) (listOf m p) → parentOf m e ≡ some
 
 -- sound, and trees by their parents: the model, and each tree whose file is not loaded
 pub record Inv (x : Fixed) (s : State) : Type 0 where
-  pub static : Static x
-  pub kept : Kept x s
-  pub rootSet : 0 < setOf (s .model) root
+  pub sound : Sound x s
   pub rootTop : parentOf (s .model) root ≡ none
   pub treeTop : (t : Tree) → In t (x .elements .trees) → parentOf (s .model) (t .root) ≡ none
   pub model : (p : Element) → Under (s .model) root p → Owns (s .model) p

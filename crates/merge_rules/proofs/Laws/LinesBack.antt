@@ -14,15 +14,16 @@ use Rattle.tables.specs.Cells.{Each}
 use Rattle.tables.specs.Lists.{firstOf}
 use Rattle.tables.specs.Records.{Text, Fixed}
 use Rattle.tables.specs.Texts.{bytesAt}
+use Rattle.tables.proofs.Laws.Cases.{bool-case}
 use Rattle.deck.specs.Deck.{Part, ahead, parts, fields, field, only, decimal, hexadecimal, depthField, nameField, fileField, setField, letter, byLetter, texts, textE, textS, textU, textF, textFields, Line, T, G, S, F, M, B, E, C, lineT, lineG, lineS, lineF, lineM, lineB, lineE, lineC, kinds, readLine}
 use Rattle.deck.proofs.Laws.Parts.{parts-some}
 use Rattle.merge_rules.specs.Program.{decimalOf, hexadecimalOf, lineOf, kindOfText, valueOfText, textLine}
-use Rattle.merge_rules.proofs.Laws.Cases.{bool-case, option-case, IfSome, isSome, isNone, some-bind, any-bind}
+use Rattle.merge_rules.proofs.Laws.Cases.{option-case, IfSome, isSome, isNone, some-bind, any-bind}
 use Rattle.merge_rules.proofs.Laws.Digits.{only-any, number-back}
 use Rattle.merge_rules.proofs.Laws.Lists.{each-in, firstOf-some}
 use Rattle.merge_rules.proofs.Laws.Parse.{only-ok}
 
--- ---- parts stand in the deck
+-- ---- parts of the deck
 
 -- the part's bytes are those at its place
 pub record At (deck : List ℕ) (p : Part) : Type 0 where

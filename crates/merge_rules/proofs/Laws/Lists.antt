@@ -16,11 +16,10 @@ use Rattle.tables.specs.ModelTable.{flat}
 use Rattle.tables.specs.Records.{Element, Item, child, text}
 use Rattle.tables.proofs.Laws.Cells.{each-append}
 use Rattle.tables.proofs.Laws.Lists.{length-insertAt}
-use Rattle.table_test.proofs.Laws.PassingRows.{each-passes}
-use Rattle.schema_calls.proofs.Laws.Scans.{any-none}
+use Rattle.tables.proofs.Laws.Cases.{bool-case}
+use Rattle.tables.proofs.Laws.Scans.{each-passes, any-none}
 use Rattle.merge_rules.specs.Pairing.{children}
 use Rattle.merge_rules.specs.Sound.{In, Once, once-nil, once-cons}
-use Rattle.merge_rules.proofs.Laws.Cases.{bool-case}
 
 -- ---- what holds of each entry
 
@@ -70,20 +69,15 @@ module _ {A : Type 0} (P : A → Type 0) where
   flat-each [] h = tt
   flat-each (l ∷ ls) h = each-append P l (flat ls) (in-each l (h 0)) (flat-each ls (λ p. h (suc p)))
 
--- two facts of each entry
-pub each-both : {A : Type 0} (P Q : A → Type 0) (l : List A) → Each P l → Each Q l → Each (λ (a : A). P a × Q a) l
-each-both P Q [] h k = tt
-each-both P Q (a ∷ l) h k = ((h .0, k .0), each-both P Q l (h .1) (k .1))
-
--- the entry at a place stands in the list
+-- the entry at a place is in the list
 pub at-in : {A : Type 0} (l : List A) (d : A) (i : ℕ) → i < length l → In (getD l i d) l
 at-in [] d i h = absurd (not-suc-le-zero h)
 at-in (x ∷ l) d zero h = List·Memᴰ·head refl
 at-in (x ∷ l) d (suc i) h = List·Memᴰ·tail (at-in l d i (le-of-suc-le-suc h))
 
--- ---- entries that stand in another list
+-- ---- entries of another list
 
--- every entry of the first stands in the second
+-- every entry of the first is in the second
 abbrev pub Within : {A : Type 0} → List A → List A → Type 0
 Within {A} l k = (a : A) → In a l → In a k
 
@@ -140,7 +134,7 @@ module _ {A : Type 0} (t : A → Bool) where
   pub allOf-each : (l : List A) → ((a : A) → In a l → t a ≡ true) → allOf t l ≡ true
   allOf-each l h = each-passes t l (in-each (λ (a : A). t a ≡ true) l h)
 
-  -- the first entry that passes does pass and stands in the list
+  -- the first entry that passes does pass and is in the list
   pub firstOf-some : (l : List A) {a : A} → firstOf t l ≡ some a → (t a ≡ true) × In a l
   unfolding firstOf
   firstOf-some [] {a} = λ h. absurd (Option·none-ne-some a h)
@@ -174,7 +168,7 @@ module _ {A : Type 0} where
   getD-snoc P (x ∷ l) a d zero old new past = old (omega arith)
   getD-snoc P (x ∷ l) a d (suc i) old new past = getD-snoc P l a d i (λ h. old (omega arith)) (λ h. new (omega arith)) (λ h. past (omega arith))
 
-  -- what is read past the end may as well stand there
+  -- what is read past the end may as well be there
   pub getD-snoc-default : (l : List A) (d : A) (i : ℕ) → getD (l ++ (d ∷ [])) i d ≡ getD l i d
   getD-snoc-default l d i = getD-snoc (λ (a : A). a ≡ getD l i d) l d d i (λ _. refl) (λ h. past (omega arith)) (λ h. past (omega arith))
     where
@@ -202,11 +196,11 @@ module _ {A : Type 0} where
   getD-set P (x ∷ l) (suc j) a d (suc i) new old = getD-set P l j a d i (λ e. new (ap suc e)) old
 
   -- an entry changed and changed back
-  pub set-back : (l : List A) (i : ℕ) (d v : A) (f : A → A) → f v ≡ getD l i d → set (set l i v) i (f (getD (set l i v) i d)) ≡ l
-  set-back [] zero d v f h = refl
-  set-back [] (suc i) d v f h = refl
-  set-back (x ∷ l) zero d v f h = ap (λ y. y ∷ l) h
-  set-back (x ∷ l) (suc i) d v f h = ap (λ m. x ∷ m) (set-back l i d v f h)
+  pub set-undone : (l : List A) (i : ℕ) (d v : A) (f : A → A) → f v ≡ getD l i d → set (set l i v) i (f (getD (set l i v) i d)) ≡ l
+  set-undone [] zero d v f h = refl
+  set-undone [] (suc i) d v f h = refl
+  set-undone (x ∷ l) zero d v f h = ap (λ y. y ∷ l) h
+  set-undone (x ∷ l) (suc i) d v f h = ap (λ m. x ∷ m) (set-undone l i d v f h)
 
   -- ---- an entry put in at a place
 
@@ -228,7 +222,7 @@ module _ {A : Type 0} where
 
 -- ---- lists without repetition
 
--- the first does not stand again
+-- the first is not in the rest
 pub once-head : {e : Element} {l : List Element} → Once (e ∷ l) → In e l → ⊥
 once-head (once-cons h o) = h
 
@@ -256,7 +250,7 @@ in-children (child c ∷ l) h =
 in-children (text t ∷ l) h =
     ⊎-elim (λ q. let z : _≡_ {A = ℕ} 0 1 = cc in absurd (omega arith)) (in-children l) (List·Memᴰ·cases-cons h)
 
--- a child's item stands in the list
+-- a child's item is in the list
 pub children-in : {e : Element} (l : List Item) → In e (children l) → In (child e) l
 unfolding children
 children-in [] h = absurd (List·Memᴰ·not-nil h)
@@ -284,7 +278,7 @@ children-insert-text [] (suc n) t = refl
 children-insert-text (child c ∷ l) (suc n) t = ap {B = List Element} (λ r. c ∷ r) (children-insert-text l n t)
 children-insert-text (text u ∷ l) (suc n) t = children-insert-text l n t
 
--- ---- how often an element stands in a list
+-- ---- how often an element is in a list
 
 -- the entries that are this element
 abbrev pub occurrences : Element → List Element → ℕ

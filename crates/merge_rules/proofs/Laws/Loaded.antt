@@ -12,41 +12,42 @@ use lib.Dec.{eqb, leb, ltb, lit<, lit≤}
 use lib.ListN.{length, getD, take, length-append, List·getD-append}
 use Rattle.tables.specs.Cells.{Each}
 use Rattle.tables.specs.FileSets.{partOf, loadedFiles, noSet}
-use Rattle.tables.specs.Limits.{deckLimit, typeLimit, groupLimit, rowLimit, elementLimit, depthLimit, itemLimit}
+use Rattle.tables.specs.Limits.{nameLimit, deckLimit, typeLimit, groupLimit, rowLimit, elementLimit, depthLimit, itemLimit}
 use Rattle.tables.specs.Records.{Element, Name, TypeNumber, FileNumber, FileSet, TypeRow, Group, SubElement, File, Schema, Text, Tree, child, text, Fixed, State, root, depthOf, setOf, addTree, addElement, addText, addToModel, insertItem, putList, contentItems, addType, addGroup, addSubElement, addFile}
 use Rattle.tables.proofs.Laws.FileSets.{partOf-trans, partOf-noSet}
 use Rattle.tables.proofs.Laws.Model.{total-add}
-use Rattle.table_test.specs.ElementsTest.{nameLimit, TextIn}
+use Rattle.tables.proofs.Laws.Cases.{bool-case}
+use Rattle.table_test.specs.ElementsTest.{TextIn}
 use Rattle.deck.specs.Deck.{Part, parts, lines, Line, T, G, S, F, M, B, E, C}
 use Rattle.deck.specs.Load.{form, Loading, nothing, kindT, kindG, kindS, kindF, kindM, kindB, putSchema, openTree, putContent, loadT, loadG, loadS, loadF, loadM, mayWait, loadB, owner, inModel, rootSetRule, setRule, nextElement, append, loadRoot, loadChild, loadE, loadC, loadLine, Load, loaded, refusedAt, finish, loadLines, load}
-use Rattle.deck.specs.Schema.{declaredType, declaredFiles, declaresFile, findSubElement, allVersions}
+use Rattle.deck.specs.Schema.{declaredType, declaredFiles, declaresFile, findSubElement, rowOfName}
 use Rattle.deck.proofs.Laws.Load.{owner-within, wait-new, room-left, total-append}
-use Rattle.state_test.specs.StateTest.{schemaStands}
+use Rattle.state_test.specs.StateTest.{schemaValid}
 use Rattle.merge_rules.specs.Sound.{count}
-use Rattle.merge_rules.proofs.Laws.Cases.{and-three, bool-case, list-case, IfOk, isOk, given-ok, need-bind, given-bind, ok-bind, ok-case}
-use Rattle.merge_rules.proofs.Laws.Elements.{ElementsFit, elements-nothing, elements-types, elements-element, elements-text, elements-tree}
+use Rattle.merge_rules.proofs.Laws.Cases.{and-three, list-case, IfOk, isOk, given-ok, need-bind, given-bind, ok-bind, ok-case}
+use Rattle.merge_rules.proofs.Laws.Elements.{ElementsInRange, elements-nothing, elements-types, elements-element, elements-text, elements-tree}
 use Rattle.merge_rules.proofs.Laws.Invariant.{Inv}
 use Rattle.merge_rules.proofs.Laws.Lists.{anyOf-false, firstOf-some}
-use Rattle.merge_rules.proofs.Laws.Loading.{Built, New, Joins, new-depth, new-type, new-parent, trees-added, built-added, trees-more, built-put, built-child, built-inv, built-nothing}
-use Rattle.merge_rules.proofs.Laws.Parse.{TypeFits, GroupFits, RowFits, FileFits, PartIn, parts-in, LineFits, read-ok, SchemaFits, type-added, group-added, row-added, file-added, schema-nothing}
-use Rattle.merge_rules.proofs.Laws.SchemaRows.{Stands, stands-nothing, stands-later, stands-type, stands-group, stands-row, stands-file, stands-all}
+use Rattle.merge_rules.proofs.Laws.Loading.{Built, NewElement, NewElementValid, new-depth, new-type, new-parent, trees-added, built-added, trees-more, built-put, built-child, built-inv, built-nothing}
+use Rattle.merge_rules.proofs.Laws.Parse.{TypeInRange, GroupInRange, RowInRange, FileInRange, PartIn, parts-in, LineInRange, read-ok, SchemaInRange, type-added, group-added, row-added, file-added, schema-nothing}
+use Rattle.merge_rules.proofs.Laws.SchemaRows.{SchemaValidUpTo, valid-nothing, valid-later, valid-type, valid-group, valid-row, valid-file, valid-all}
 
--- what a load fixes beside the invariant: rows and elements in their ranges, and rows that stand by those above
-pub record Ranged (deck : List ℕ) (x : Fixed) : Type 0 where
+-- what a load fixes beside the invariant: rows and elements in their ranges, and rows that meet their rules
+pub record FixedInRange (deck : List ℕ) (x : Fixed) : Type 0 where
   pub read : x .deck ≡ deck
   pub size : length deck ≤ deckLimit
-  pub schema : SchemaFits (x .schema)
-  pub stands : schemaStands (x .schema) ≡ true
-  pub elements : ElementsFit (length deck) (length (x .schema .types)) (x .elements)
+  pub schema : SchemaInRange (x .schema)
+  pub valid : schemaValid (x .schema) ≡ true
+  pub elements : ElementsInRange (length deck) (length (x .schema .types)) (x .elements)
   pub fewTexts : length (x .elements .texts) ≤ itemLimit
 
 -- of an accepted load: the invariant, an empty log and what is fixed
 pub record Loaded (deck : List ℕ) (x : Fixed) (s : State) : Type 0 where
   pub inv : Inv x s
   pub log : s .log ≡ []
-  pub fixed : Ranged deck x
+  pub fixed : FixedInRange deck x
 
--- ---- what a line leads to
+-- ---- the loading behind a line
 
 -- a B line
 abbrev pub treeOpened : Loading → FileNumber → Loading
@@ -86,16 +87,16 @@ module _ (deck : List ℕ) where
   pub data Stage : Loading → Type 0 where
     schemaOnly : (k : ℕ) (sc : Schema) → k < kindM → Stage (putSchema nothing k sc)
     modelDue : (k : ℕ) (sc : Schema) → Stage (openTree (putSchema nothing k sc) kindM true (nothing .elements))
-    noModel : {l : Loading} → l .latest ≡ kindB → l .modelSeen ≡ false → Stage l
+    modelMissing : {l : Loading} → l .latest ≡ kindB → l .modelSeen ≡ false → Stage l
     complete : {l : Loading} → Complete l → Stage l
     treeDue : (l : Loading) (f : FileNumber) → Complete l → mayWait l f ≡ true → Stage (treeOpened l f)
 
   -- what holds at each line
-  pub record Going (l : Loading) : Type 0 where
+  pub record LoadingSound (l : Loading) : Type 0 where
     pub stage : Stage l
-    pub schema : SchemaFits (l .schema)
-    pub stands : Stands (l .latest) (l .schema)
-    pub elements : ElementsFit (length deck) (length (l .schema .types)) (l .elements)
+    pub schema : SchemaInRange (l .schema)
+    pub valid : SchemaValidUpTo (l .latest) (l .schema)
+    pub elements : ElementsInRange (length deck) (length (l .schema .types)) (l .elements)
 
   -- ---- T, G, S, F
 
@@ -104,7 +105,7 @@ module _ (deck : List ℕ) where
   unfolding openTree
   schema-stage P (schemaOnly k sc h) low p = p k sc
   schema-stage P (modelDue k sc) low p = absurd (omega arith)
-  schema-stage P (noModel h g) low p = absurd (omega arith)
+  schema-stage P (modelMissing h g) low p = absurd (omega arith)
   schema-stage P (complete s) low p = absurd (omega (arith, s .kind))
   schema-stage P (treeDue l f s w) low p = absurd (omega arith)
 
@@ -113,7 +114,7 @@ module _ (deck : List ℕ) where
   stage-schema {l} g k sc low t =
       schema-stage (λ (r : Loading). Stage (putSchema r k sc)) g (omega (arith, leb-true (l .latest) k t)) (λ _ _. schemaOnly k sc low)
 
-  loadT-ok : {l : Loading} → Going l → (t : TypeNumber) (r : TypeRow) → TypeFits r → IfOk Going (loadT l t r)
+  loadT-ok : {l : Loading} → LoadingSound l → (t : TypeNumber) (r : TypeRow) → TypeInRange r → IfOk LoadingSound (loadT l t r)
   unfolding loadT putSchema addType
   loadT-ok {l} g t r f =
       need-bind _ _ (λ _ h. need-bind _ _ (λ _ k.
@@ -123,11 +124,11 @@ module _ (deck : List ℕ) where
       (record {
         stage = stage-schema (g .stage) kindT _ (lit< tt) first;
         schema = type-added (g .schema) r f (omega (arith, ltb-true t typeLimit k));
-        stands = stands-type (g .stands) r (leb-true _ _ first);
+        valid = valid-type (g .valid) r (leb-true _ _ first);
         elements = elements-types (g .elements) _ (rw length-append (omega arith));
       })))
 
-  loadG-ok : {l : Loading} → Going l → (r : Group) → GroupFits r → IfOk Going (loadG l r)
+  loadG-ok : {l : Loading} → LoadingSound l → (r : Group) → GroupInRange r → IfOk LoadingSound (loadG l r)
   unfolding loadG putSchema addGroup
   loadG-ok g r f =
       need-bind _ _ (λ _ h. need-bind _ _ (λ _ k. need-bind _ _ (λ _ rule.
@@ -135,11 +136,11 @@ module _ (deck : List ℕ) where
       (record {
         stage = stage-schema (g .stage) kindG _ (lit< tt) h;
         schema = group-added (g .schema) r f (ltb-true _ groupLimit k) rule;
-        stands = stands-group (g .stands) r (leb-true _ _ h) rule;
+        valid = valid-group (g .valid) r (leb-true _ _ h) rule;
         elements = g .elements;
       }))))
 
-  loadS-ok : {l : Loading} → Going l → (r : SubElement) → RowFits r → IfOk Going (loadS l r)
+  loadS-ok : {l : Loading} → LoadingSound l → (r : SubElement) → RowInRange r → IfOk LoadingSound (loadS l r)
   unfolding loadS putSchema addSubElement
   loadS-ok g r f =
       need-bind _ _ (λ _ h. need-bind _ _ (λ _ k. need-bind _ _ (λ _ rule.
@@ -147,11 +148,11 @@ module _ (deck : List ℕ) where
       (record {
         stage = stage-schema (g .stage) kindS _ (lit< tt) h;
         schema = row-added (g .schema) r f (ltb-true _ rowLimit k) rule;
-        stands = stands-row (g .stands) r rule;
+        valid = valid-row (g .valid) r rule;
         elements = g .elements;
       }))))
 
-  loadF-ok : {l : Loading} → Going l → (r : File) → FileFits r → IfOk Going (loadF l r)
+  loadF-ok : {l : Loading} → LoadingSound l → (r : File) → FileInRange r → IfOk LoadingSound (loadF l r)
   unfolding loadF putSchema addFile
   loadF-ok {l} g r f =
       need-bind _ _ (λ _ h.
@@ -160,7 +161,7 @@ module _ (deck : List ℕ) where
       (record {
         stage = stage-schema (g .stage) kindF _ (lit< tt) order;
         schema = file-added (g .schema) r f rises;
-        stands = stands-file (g .stands) r;
+        valid = valid-file (g .valid) r;
         elements = g .elements;
       }))
 
@@ -170,22 +171,22 @@ module _ (deck : List ℕ) where
   unfolding putSchema
   stage-M {l} g t = schema-stage (λ (r : Loading). Stage (openTree r kindM true (r .elements))) g (ltb-true (l .latest) kindM t) modelDue
 
-  loadM-ok : {l : Loading} → Going l → IfOk Going (loadM l)
+  loadM-ok : {l : Loading} → LoadingSound l → IfOk LoadingSound (loadM l)
   unfolding loadM openTree
   loadM-ok g =
       need-bind _ _ (λ _ _. need-bind _ _ (λ _ h.
       isOk
-      (record { stage = stage-M (g .stage) h; schema = g .schema; stands = stands-later (g .stands) kindM (lit< tt); elements = g .elements })))
+      (record { stage = stage-M (g .stage) h; schema = g .schema; valid = valid-later (g .valid) kindM (lit< tt); elements = g .elements })))
 
   stage-B : {l : Loading} → Stage l → (f : FileNumber) → not (l .rootDue) ≡ true → mayWait l f ≡ true → Stage (treeOpened l f)
   unfolding putSchema openTree
-  stage-B (schemaOnly k sc h) f r w = noModel refl refl
+  stage-B (schemaOnly k sc h) f r w = modelMissing refl refl
   stage-B (modelDue k sc) f r w = absurd (false≢true r)
-  stage-B (noModel h g) f r w = noModel refl g
+  stage-B (modelMissing h g) f r w = modelMissing refl g
   stage-B (complete {l} s) f r w = treeDue l f s w
   stage-B (treeDue l g s v) f r w = absurd (false≢true r)
 
-  loadB-ok : {l : Loading} → Going l → (f : FileNumber) → IfOk Going (loadB l f)
+  loadB-ok : {l : Loading} → LoadingSound l → (f : FileNumber) → IfOk LoadingSound (loadB l f)
   unfolding loadB openTree mayWait
   loadB-ok {l} g f =
       need-bind _ _ (λ _ h.
@@ -194,7 +195,7 @@ module _ (deck : List ℕ) where
       (record {
         stage = stage-B (g .stage) f ready may;
         schema = g .schema;
-        stands = stands-later (g .stands) kindB (lit< tt);
+        valid = valid-later (g .valid) kindB (lit< tt);
         elements = elements-tree (g .elements) _ (wait-new l f may);
       }))
 
@@ -221,7 +222,7 @@ module _ (deck : List ℕ) where
   unfolding putSchema openTree
   owned-stage (schemaOnly k sc h) r d p o = absurd (no-owner _ refl d p o)
   owned-stage (modelDue k sc) r d p o = absurd (true≢false r)
-  owned-stage (noModel h g) r d p o = inr (h, g)
+  owned-stage (modelMissing h g) r d p o = inr (h, g)
   owned-stage (complete s) r d p o = inl s
   owned-stage (treeDue l f s w) r d p o = absurd (true≢false r)
 
@@ -240,16 +241,16 @@ module _ (deck : List ℕ) where
         fewTexts = rw (length-append, total-append (l .model) p _ (rw (s .built .kept .lists) (owner-open l s d p o .0))) (omega (arith, s .fewTexts));
       }
 
-  loadC-ok : {l : Loading} → Going l → (d : ℕ) (t : Text) → TextIn (length deck) t → IfOk Going (loadC l d t)
+  loadC-ok : {l : Loading} → LoadingSound l → (d : ℕ) (t : Text) → TextIn (length deck) t → IfOk LoadingSound (loadC l d t)
   unfolding loadC putContent
   loadC-ok {l} g d t f =
       need-bind _ _ (λ _ h. need-bind _ _ (λ _ r. given-bind _ _ (λ p o. need-bind _ _ (λ _ _.
       let room : contentItems (l .model) < itemLimit = ltb-true _ _ (and-eq-true-iff (leb d depthLimit) _ .0 h .1) in
       isOk
       (record {
-        stage = ⊎-elim (λ s. complete (text-complete l s d t p room o)) (λ k. noModel (k .0) (k .1)) (owned-stage (g .stage) (not-true _ r) d p o);
+        stage = ⊎-elim (λ s. complete (text-complete l s d t p room o)) (λ k. modelMissing (k .0) (k .1)) (owned-stage (g .stage) (not-true _ r) d p o);
         schema = g .schema;
-        stands = g .stands;
+        valid = g .valid;
         elements = elements-text (g .elements) t f;
       })))))
 
@@ -274,7 +275,7 @@ module _ (deck : List ℕ) where
       (λ _ h. rw (eqb-true s noSet h) (partOf-noSet _))
 
   child-complete : (l : Loading) → Complete l → (d : ℕ) (n : Name) (s : FileSet) → Room l d → (p : Element) → owner l d ≡ some p → (row : SubElement)
-      → findSubElement (l .schema) (getD (l .elements .types) p 0) n allVersions ≡ some row → setRule l s ≡ true
+      → rowOfName (l .schema) (getD (l .elements .types) p 0) n ≡ some row → setRule l s ≡ true
       → Complete (childAdded l d n s p row)
   unfolding putContent addElement nextElement addToModel append insertItem putList
   child-complete l g d n s h p o row found rule =
@@ -297,10 +298,10 @@ module _ (deck : List ℕ) where
       }
 
   -- a root: depth 0, name 0, type 0
-  abbrev newRoot : FileSet → New
+  abbrev newRoot : FileSet → NewElement
   newRoot s = record { name = 0; type = 0; depth = 0; parent = none; set = s }
 
-  root-joins : (x : Fixed) (s : FileSet) → Joins x (newRoot s)
+  root-joins : (x : Fixed) (s : FileSet) → NewElementValid x (newRoot s)
   root-joins x s = record { below = λ p h. absurd (Option·none-ne-some p h); first = λ h. (refl, refl, refl) }
 
   -- the model's root
@@ -337,14 +338,14 @@ module _ (deck : List ℕ) where
             (trees-more (trees-added b (newRoot s) trees) t
             (record {
               inRange = rw length-append (omega arith);
-              apart = λ h. omega (arith, g .some);
+              notRoot = λ h. omega (arith, g .some);
               depth = new-depth b (newRoot s) trees;
               type = new-type b (newRoot s) trees;
               declared = known;
             })
             (new-parent b (newRoot s) trees)
             (λ u h. eqb-false (u .file) f (anyOf-false (λ (v : Tree). eqb (v .file) f) (l .elements .trees) (wait-new l f may) u h))
-            (λ u h e. omega (arith, b .trees .fits u h .inRange)));
+            (λ u h e. omega (arith, b .trees .all .valid u h .inRange)));
         some = rw length-append (omega arith);
         rootSet = rw (List·getD-append (l .model .sets) (s ∷ []) 0 root (omega (arith, g .some, b .kept .sets))) (g .rootSet);
         fewTexts = rw (total-add (l .model) none s) (g .fewTexts);
@@ -355,28 +356,28 @@ module _ (deck : List ℕ) where
   unfolding putSchema openTree putContent addTree rootSetRule inModel
   stage-root (schemaOnly k sc h) r s few rule = absurd (false≢true r)
   stage-root (modelDue k sc) r s few rule = complete (model-complete k sc s rule)
-  stage-root (noModel h g) r s few rule = noModel h g
+  stage-root (modelMissing h g) r s few rule = modelMissing h g
   stage-root (complete g) r s few rule = absurd (false≢true (sym (g .ready) ∙ r))
   stage-root (treeDue l f g w) r s few rule = complete (tree-complete l g f w s rule few)
 
   -- the child type of a row that is found
-  row-type : {l : Loading} → Going l → (t : TypeNumber) (n : Name) (row : SubElement) → findSubElement (l .schema) t n allVersions ≡ some row
+  row-type : {l : Loading} → LoadingSound l → (t : TypeNumber) (n : Name) (row : SubElement) → rowOfName (l .schema) t n ≡ some row
       → row .childType < length (l .schema .types)
-  unfolding findSubElement
+  unfolding rowOfName findSubElement
   row-type {l} g t n row h = g .schema .rows .fit row (firstOf-some _ (l .schema .subElements) h .1) .2
 
-  loadE-ok : {l : Loading} → Going l → (d : ℕ) (n : Name) (s : FileSet) → n ≤ nameLimit → IfOk Going (loadE l d n s)
+  loadE-ok : {l : Loading} → LoadingSound l → (d : ℕ) (n : Name) (s : FileSet) → n ≤ nameLimit → IfOk LoadingSound (loadE l d n s)
   unfolding loadE loadRoot loadChild putContent declaredType
   loadE-ok {l} g d n s f =
       need-bind _ _ (λ _ h.
-      bool-case (IfOk Going) (l .rootDue)
+      bool-case (IfOk LoadingSound) (l .rootDue)
       (λ r.
       need-bind _ _ (λ _ _. need-bind _ _ (λ _ zero. need-bind _ _ (λ _ rule.
       isOk
       (record {
         stage = stage-root (g .stage) r s (limits l d h .1) rule;
         schema = g .schema;
-        stands = g .stands;
+        valid = g .valid;
         elements = elements-element (g .elements) 0 0 0 zero-le (ltb-true 0 _ zero);
       })))))
       (λ r.
@@ -384,14 +385,14 @@ module _ (deck : List ℕ) where
       isOk
       (record {
         stage =
-            ⊎-elim (λ c. complete (child-complete l c d n s h p o row found rule)) (λ k. noModel (k .0) (k .1)) (owned-stage (g .stage) r d p o);
+            ⊎-elim (λ c. complete (child-complete l c d n s h p o row found rule)) (λ k. modelMissing (k .0) (k .1)) (owned-stage (g .stage) r d p o);
         schema = g .schema;
-        stands = g .stands;
+        valid = g .valid;
         elements = elements-element (g .elements) n (row .childType) d f (row-type g _ n row found);
       }))))))
 
   -- each line keeps it
-  pub loadLine-ok : {l : Loading} → Going l → (line : Line) → LineFits (length deck) line → IfOk Going (loadLine l line)
+  pub loadLine-ok : {l : Loading} → LoadingSound l → (line : Line) → LineInRange (length deck) line → IfOk LoadingSound (loadLine l line)
   unfolding loadLine
   loadLine-ok g (T t r) f = loadT-ok g t r f
   loadLine-ok g (G r) f = loadG-ok g r f
@@ -409,7 +410,7 @@ module _ (deck : List ℕ) where
   unfolding putSchema openTree
   finished (schemaOnly k sc h) seen r = absurd (false≢true seen)
   finished (modelDue k sc) seen r = absurd (false≢true r)
-  finished (noModel h g) seen r = absurd (false≢true (sym g ∙ seen))
+  finished (modelMissing h g) seen r = absurd (false≢true (sym g ∙ seen))
   finished (complete g) seen r = (built-inv (g .built) (g .some) (g .rootSet), omega (arith, g .fewTexts, g .built .kept .fewItems))
   finished (treeDue l f g w) seen r = absurd (false≢true r)
 
@@ -418,7 +419,7 @@ module _ (deck : List ℕ) where
     isRefusedAt : {r n : ℕ} → IfLoaded (refusedAt r n)
 
   module _ (size : length deck ≤ deckLimit) where
-    finish-ok : (n : ℕ) {l : Loading} → Going l → IfLoaded (finish deck n l)
+    finish-ok : (n : ℕ) {l : Loading} → LoadingSound l → IfLoaded (finish deck n l)
     unfolding finish
     finish-ok n {l} g =
         bool-case IfLoaded (l .modelSeen && not (l .rootDue))
@@ -434,14 +435,14 @@ module _ (deck : List ℕ) where
                 read = refl;
                 size = size;
                 schema = g .schema;
-                stands = stands-all (g .stands);
+                valid = valid-all (g .valid);
                 elements = g .elements;
                 fewTexts = few;
               };
         }))
         (λ _. isRefusedAt)
 
-    loadLines-ok : (n : ℕ) (ps : List Part) {l : Loading} → Each (PartIn (length deck)) ps → Going l → IfLoaded (loadLines deck n ps l)
+    loadLines-ok : (n : ℕ) (ps : List Part) {l : Loading} → Each (PartIn (length deck)) ps → LoadingSound l → IfLoaded (loadLines deck n ps l)
     unfolding loadLines
     loadLines-ok n [] i g = finish-ok n g
     loadLines-ok n (p ∷ []) i g = list-case IfLoaded (p .bytes) (finish-ok n g) (λ b bs. isRefusedAt)
@@ -449,13 +450,13 @@ module _ (deck : List ℕ) where
         ok-case IfLoaded (ok-bind (given-ok form (read-ok (length deck) p (i .0))) (loadLine-ok g)) (λ l g′. loadLines-ok (suc n) (q ∷ ps) (i .1) g′) (λ r. isRefusedAt)
 
   -- it holds before the first line
-  pub going-nothing : Going nothing
+  pub sound-nothing : LoadingSound nothing
   unfolding putSchema
-  going-nothing =
+  sound-nothing =
       record {
         stage = schemaOnly kindT _ (lit< tt);
         schema = schema-nothing;
-        stands = stands-nothing;
+        valid = valid-nothing;
         elements = elements-nothing _ _;
       }
 
@@ -464,7 +465,7 @@ module _ (deck : List ℕ) where
   load-ok =
       bool-case IfLoaded (leb (length deck) deckLimit)
       (λ h.
-      loadLines-ok (leb-true _ _ h) 0 (parts 10 0 deck) (parts-in (length deck) 10 0 deck (omega arith)) going-nothing)
+      loadLines-ok (leb-true _ _ h) 0 (parts 10 0 deck) (parts-in (length deck) 10 0 deck (omega arith)) sound-nothing)
       (λ _. isRefusedAt)
 
   loaded-ok : {x : Fixed} {s : State} → IfLoaded (loaded x s) → Loaded deck x s

@@ -15,39 +15,32 @@ use Rattle.tables.specs.Lists.{insertAt, sum}
 use Rattle.tables.specs.Records.{Element, Name, TypeNumber, FileSet, SubElement, Schema, Tree, Text, Item, child, text, Model, Fixed, root, nameOf, typeOf, depthOf, parentOf, setOf, listOf, addToModel, insertItem, putList, contentItems}
 use Rattle.tables.proofs.Laws.Model.{parent-add, parent-add-new, total-add}
 use Rattle.deck.specs.Load.{append, nothing}
-use Rattle.deck.specs.Schema.{declaredFiles, findSubElement, allVersions}
+use Rattle.deck.specs.Schema.{declaredFiles, rowOfName}
 use Rattle.deck.proofs.Laws.Load.{append-added}
 use Rattle.merge_rules.specs.Pairing.{children}
-use Rattle.merge_rules.specs.Sound.{In, count, Once, once-nil, Fits, TreeFits, ItemFits, Kept}
+use Rattle.merge_rules.specs.Sound.{In, count, Once, once-nil, ChildValid, ElementsValid, TreeValid, TreesValid, ItemInRange, Kept}
 use Rattle.merge_rules.proofs.Laws.Invariant.{Owns, Inv}
 use Rattle.merge_rules.proofs.Laws.Lists.{in-snoc, each-nil, each-snoc, getD-snoc, getD-snoc-default, getElem?-front, once-insert, children-insert-text}
 use Rattle.merge_rules.proofs.Laws.Models.{insert-list, insert-in, insert-items}
 
--- trees whose roots are elements, each with a file and a root of its own
-pub record TreesFit (x : Fixed) (m : Model) (trees : List Tree) : Type 0 where
-  pub fits : (t : Tree) → In t trees → TreeFits x t
+-- trees whose roots have no parent
+pub record TreesBuilt (x : Fixed) (m : Model) (trees : List Tree) : Type 0 where
+  pub all : TreesValid x trees
   pub top : (t : Tree) → In t trees → parentOf m (t .root) ≡ none
-  pub oneFile : (t u : Tree) → In t trees → In u trees → t .file ≡ u .file → t ≡ u
-  pub oneRoot : (t u : Tree) → In t trees → In u trees → t .root ≡ u .root → t ≡ u
 
 -- the elements and the model so far; above: the open elements, by depth
 pub record Built (x : Fixed) (m : Model) (above : List Element) : Type 0 where
   pub kept : Kept x (record { model = m; log = [] })
   pub owns : (p : Element) → Owns m p
-  pub fewElements : count x ≤ elementLimit
-  pub types : length (x .elements .types) ≡ count x
-  pub depths : length (x .elements .depths) ≡ count x
-  pub shallow : (e : Element) → depthOf x e ≤ depthLimit
-  pub rootDepth : depthOf x root ≡ 0
-  pub rootType : typeOf x root ≡ 0
+  pub elements : ElementsValid (x .elements .names) (x .elements .types) (x .elements .depths)
   pub rootTop : parentOf m root ≡ none
   pub atDepth : (d : ℕ) (p : Element) → getElem? above d ≡ some p → (p < count x) × (depthOf x p ≡ d)
-  pub trees : TreesFit x m (x .elements .trees)
+  pub trees : TreesBuilt x m (x .elements .trees)
 
 -- ---- one more element
 
 -- a new element
-pub record New : Type 0 where
+pub record NewElement : Type 0 where
   pub name : Name
   pub type : TypeNumber
   pub depth : ℕ
@@ -55,7 +48,7 @@ pub record New : Type 0 where
   pub set : FileSet
 
 -- one element more, with these trees
-abbrev pub withElement : Fixed → New → List Tree → Fixed
+abbrev pub withElement : Fixed → NewElement → List Tree → Fixed
 withElement x new trees =
     record {
       deck = x .deck;
@@ -71,11 +64,16 @@ withElement x new trees =
     }
 
 -- the first element is a root; every other one is one deeper than its parent
-pub record Joins (x : Fixed) (new : New) : Type 0 where
+pub record NewElementValid (x : Fixed) (new : NewElement) : Type 0 where
   pub below : (p : Element) → new .parent ≡ some p → (p < count x) × (new .depth ≡ suc (depthOf x p))
   pub first : count x ≡ 0 → (new .parent ≡ none) × (new .depth ≡ 0) × (new .type ≡ 0)
 
-module _ {x : Fixed} {m : Model} {above : List Element} (b : Built x m above) (new : New) (trees : List Tree) where
+-- the depths of the elements so far
+pub depth-added : (x : Fixed) (new : NewElement) (trees : List Tree) → length (x .elements .depths) ≡ count x → (e : Element) → e < count x
+    → depthOf (withElement x new trees) e ≡ depthOf x e
+depth-added x new trees same e h = List·getD-append (x .elements .depths) (new .depth ∷ []) 0 e (omega arith)
+
+module _ {x : Fixed} {m : Model} {above : List Element} (b : Built x m above) (new : NewElement) (trees : List Tree) where
   abbrev x′ : Fixed
   x′ = withElement x new trees
 
@@ -86,24 +84,24 @@ module _ {x : Fixed} {m : Model} {above : List Element} (b : Built x m above) (n
   kept-name e h = List·getD-append (x .elements .names) (new .name ∷ []) 0 e h
 
   kept-type : (e : Element) → e < count x → typeOf x′ e ≡ typeOf x e
-  kept-type e h = List·getD-append (x .elements .types) (new .type ∷ []) 0 e (omega (arith, b .types))
+  kept-type e h = List·getD-append (x .elements .types) (new .type ∷ []) 0 e (omega (arith, b .elements .types))
 
   kept-depth : (e : Element) → e < count x → depthOf x′ e ≡ depthOf x e
-  kept-depth e h = List·getD-append (x .elements .depths) (new .depth ∷ []) 0 e (omega (arith, b .depths))
+  kept-depth = depth-added x new trees (b .elements .depths)
 
   kept-parent : (e : Element) → e < count x → parentOf m′ e ≡ parentOf m e
   kept-parent e h = parent-add m (new .parent) (new .set) e (omega (arith, b .kept .parents))
 
   -- the new element's type
   pub new-type : typeOf x′ (count x) ≡ new .type
-  new-type = getD-at (x .elements .types) (new .type) [] 0 (count x) (b .types)
+  new-type = getD-at (x .elements .types) (new .type) [] 0 (count x) (b .elements .types)
 
   -- its depth
   pub new-depth : depthOf x′ (count x) ≡ new .depth
-  new-depth = getD-at (x .elements .depths) (new .depth) [] 0 (count x) (b .depths)
+  new-depth = getD-at (x .elements .depths) (new .depth) [] 0 (count x) (b .elements .depths)
 
   new-fits : (p : Element) → p < count x → new .depth ≡ suc (depthOf x p) → (row : SubElement)
-      → findSubElement (x .schema) (typeOf x p) (new .name) allVersions ≡ some row → row .childType ≡ new .type → Fits x′ p (count x)
+      → rowOfName (x .schema) (typeOf x p) (new .name) ≡ some row → row .childType ≡ new .type → ChildValid x′ p (count x)
   new-fits p h deep row found type =
       record {
         depth = rw (new-depth, kept-depth p h) deep;
@@ -112,11 +110,11 @@ module _ {x : Fixed} {m : Model} {above : List Element} (b : Built x m above) (n
         type = type ∙ sym new-type;
       }
 
-  item-added : (i : Item) → ItemFits x i → ItemFits x′ i
+  item-added : (i : Item) → ItemInRange x i → ItemInRange x′ i
   item-added (child e) h = rw length-append (omega arith)
   item-added (text k) h = h
 
-  fits-added : (p e : Element) → p < count x → e < count x → Fits x p e → Fits x′ p e
+  fits-added : (p e : Element) → p < count x → e < count x → ChildValid x p e → ChildValid x′ p e
   fits-added p e hp he f =
       record {
         depth = rw (kept-depth e he, kept-depth p hp) (f .depth);
@@ -125,11 +123,11 @@ module _ {x : Fixed} {m : Model} {above : List Element} (b : Built x m above) (n
         type = rw (kept-type e he) (f .type);
       }
 
-  tree-added : (u : Tree) → TreeFits x u → TreeFits x′ u
+  tree-added : (u : Tree) → TreeValid x u → TreeValid x′ u
   tree-added u f =
       record {
         inRange = rw length-append (omega (arith, f .inRange));
-        apart = f .apart;
+        notRoot = f .notRoot;
         depth = rw (kept-depth (u .root) (f .inRange)) (f .depth);
         type = rw (kept-type (u .root) (f .inRange)) (f .type);
         declared = f .declared;
@@ -144,16 +142,15 @@ module _ {x : Fixed} {m : Model} {above : List Element} (b : Built x m above) (n
   new-parent = ap (parentOf m′) (sym (b .kept .parents)) ∙ parent-add-new m (new .parent) (new .set)
 
   -- the trees so far fit with it
-  pub trees-added : TreesFit x′ m′ (x .elements .trees)
+  pub trees-added : TreesBuilt x′ m′ (x .elements .trees)
   trees-added =
+      let old = b .trees .all in
       record {
-        fits = λ u h. tree-added u (b .trees .fits u h);
-        top = λ u h. kept-parent (u .root) (b .trees .fits u h .inRange) ∙ b .trees .top u h;
-        oneFile = b .trees .oneFile;
-        oneRoot = b .trees .oneRoot;
+        all = record { valid = λ u h. tree-added u (old .valid u h); oneFile = old .oneFile; oneRoot = old .oneRoot };
+        top = λ u h. kept-parent (u .root) (old .valid u h .inRange) ∙ b .trees .top u h;
       }
 
-  module _ (j : Joins x new) (few : count x < elementLimit) (low : new .depth ≤ depthLimit)
+  module _ (j : NewElementValid x new) (few : count x < elementLimit) (low : new .depth ≤ depthLimit)
       (part : partOf (new .set) (declaredFiles (x .schema)) ≡ true) where
     owns-added : (p : Element) → Owns m′ p
     owns-added p e h =
@@ -207,22 +204,29 @@ module _ {x : Fixed} {m : Model} {above : List Element} (b : Built x m above) (n
         (λ g. let o : (p < count x) × (depthOf x p ≡ k) = b .atDepth k p g in (rw length-append (omega arith), kept-depth p (o .0) ∙ o .1))
         (λ g. (rw length-append (omega (arith, g .1)), rw (g .1, g .0) new-depth)) (getElem?-front above (new .depth) k p (count x) deep h)
 
+    elements-added : ElementsValid (x′ .elements .names) (x′ .elements .types) (x′ .elements .depths)
+    elements-added =
+        let old = b .elements in
+        record {
+          few = rw length-append (omega arith);
+          types = simp length-append (omega (arith, old .types));
+          depths = simp length-append (omega (arith, old .depths));
+          shallow = λ e. getD-snoc (λ (k : ℕ). k ≤ depthLimit) (x .elements .depths) (new .depth) 0 e (λ h. old .shallow e) (λ h. low) (λ h. zero-le);
+          rootDepth =
+              getD-snoc (λ (k : ℕ). k ≡ 0) (x .elements .depths) (new .depth) 0 root (λ h. old .rootDepth) (λ h. j .first (sym (h ∙ old .depths)) .1) (λ h. refl);
+          rootType =
+              getD-snoc (λ (k : ℕ). k ≡ 0) (x .elements .types) (new .type) 0 root (λ h. old .rootType) (λ h. j .first (sym (h ∙ old .types)) .2) (λ h. refl);
+        }
+
     -- all holds with it
-    pub built-added : new .depth ≤ length above → TreesFit x′ m′ trees
+    pub built-added : new .depth ≤ length above → TreesBuilt x′ m′ trees
         → Built x′ m′ (take (new .depth) above ++ (count x ∷ []))
     unfolding addToModel
     built-added deep whole =
         record {
           kept = kept-added;
           owns = owns-added;
-          fewElements = rw length-append (omega arith);
-          types = simp length-append (omega (arith, b .types));
-          depths = simp length-append (omega (arith, b .depths));
-          shallow = λ e. getD-snoc (λ (k : ℕ). k ≤ depthLimit) (x .elements .depths) (new .depth) 0 e (λ h. b .shallow e) (λ h. low) (λ h. zero-le);
-          rootDepth =
-              getD-snoc (λ (k : ℕ). k ≡ 0) (x .elements .depths) (new .depth) 0 root (λ h. b .rootDepth) (λ h. j .first (sym (h ∙ b .depths)) .1) (λ h. refl);
-          rootType =
-              getD-snoc (λ (k : ℕ). k ≡ 0) (x .elements .types) (new .type) 0 root (λ h. b .rootType) (λ h. j .first (sym (h ∙ b .types)) .2) (λ h. refl);
+          elements = elements-added;
           rootTop =
               getD-snoc (λ (o : Option Element). o ≡ none) (m .parents) (new .parent) none root (λ h. b .rootTop) (λ h. j .first (sym (h ∙ b .kept .parents)) .0) (λ h. refl);
           atDepth = atDepth-added deep;
@@ -232,14 +236,17 @@ module _ {x : Fixed} {m : Model} {above : List Element} (b : Built x m above) (n
 -- ---- one more tree, its root the newest element
 
 -- the trees fit with one more, of its own file and root
-pub trees-more : {x : Fixed} {m : Model} {trees : List Tree} → TreesFit x m trees → (t : Tree) → TreeFits x t → parentOf m (t .root) ≡ none
-    → ((u : Tree) → In u trees → u .file ≡ t .file → ⊥) → ((u : Tree) → In u trees → u .root ≡ t .root → ⊥) → TreesFit x m (trees ++ (t ∷ []))
+pub trees-more : {x : Fixed} {m : Model} {trees : List Tree} → TreesBuilt x m trees → (t : Tree) → TreeValid x t → parentOf m (t .root) ≡ none
+    → ((u : Tree) → In u trees → u .file ≡ t .file → ⊥) → ((u : Tree) → In u trees → u .root ≡ t .root → ⊥) → TreesBuilt x m (trees ++ (t ∷ []))
 trees-more {x} {m} {trees} b t f top file own =
     record {
-      fits = each-snoc (TreeFits x) trees f (b .fits);
+      all =
+          record {
+            valid = each-snoc (TreeValid x) trees f (b .all .valid);
+            oneFile = one Tree.file (b .all .oneFile) file;
+            oneRoot = one Tree.root (b .all .oneRoot) own;
+          };
       top = each-snoc (λ (u : Tree). parentOf m (u .root) ≡ none) trees top (b .top);
-      oneFile = one Tree.file (b .oneFile) file;
-      oneRoot = one Tree.root (b .oneRoot) own;
     }
   where
     one : (k : Tree → ℕ) → ((u v : Tree) → In u trees → In v trees → k u ≡ k v → u ≡ v) → ((u : Tree) → In u trees → k u ≡ k t → ⊥)
@@ -250,9 +257,9 @@ trees-more {x} {m} {trees} b t f top file own =
 
 -- ---- one more content item, at the end of an element's list
 
--- other texts
-abbrev pub withTexts : Fixed → List Text → Fixed
-withTexts x texts =
+-- other texts and trees
+abbrev pub withTextsAndTrees : Fixed → List Text → List Tree → Fixed
+withTextsAndTrees x texts trees =
     record {
       deck = x .deck;
       schema = x .schema;
@@ -262,38 +269,41 @@ withTexts x texts =
             types = x .elements .types;
             depths = x .elements .depths;
             texts = texts;
-            trees = x .elements .trees;
+            trees = trees;
           };
     }
 
+abbrev pub withTexts : Fixed → List Text → Fixed
+withTexts x texts = withTextsAndTrees x texts (x .elements .trees)
+
 -- a child is new to the list, fits there and has the owner for its parent
-abbrev pub MayStand : Fixed → Model → Element → Item → Type 0
-MayStand x m p (child e) = Fits x p e × (parentOf m e ≡ some p) × (In (child e) (listOf m p) → ⊥)
-MayStand x m p (text t) = Unit {0}
+abbrev pub ItemAllowed : Fixed → Model → Element → Item → Type 0
+ItemAllowed x m p (child e) = ChildValid x p e × (parentOf m e ≡ some p) × (In (child e) (listOf m p) → ⊥)
+ItemAllowed x m p (text t) = Unit {0}
 
 module _ {x : Fixed} {m : Model} {above : List Element} (b : Built x m above) (texts : List Text) (p : Element) (i : Item) where
-  fits-more : (q e : Element) → Fits x q e → Fits (withTexts x texts) q e
+  fits-more : (q e : Element) → ChildValid x q e → ChildValid (withTexts x texts) q e
   fits-more q e f = record { depth = f .depth; row = f .row; found = f .found; type = f .type }
 
-  tree-more : (t : Tree) → TreeFits x t → TreeFits (withTexts x texts) t
-  tree-more t f = record { inRange = f .inRange; apart = f .apart; depth = f .depth; type = f .type; declared = f .declared }
+  tree-more : (t : Tree) → TreeValid x t → TreeValid (withTexts x texts) t
+  tree-more t f = record { inRange = f .inRange; notRoot = f .notRoot; depth = f .depth; type = f .type; declared = f .declared }
 
-  item-more : length (x .elements .texts) ≤ length texts → (a : Item) → ItemFits x a → ItemFits (withTexts x texts) a
+  item-more : length (x .elements .texts) ≤ length texts → (a : Item) → ItemInRange x a → ItemInRange (withTexts x texts) a
   item-more more (child e) h = h
   item-more more (text t) h = omega arith
 
-  once-put : (n : ℕ) (a : Item) → MayStand x m p a → Once (children (insertAt (listOf m p) n a))
+  once-put : (n : ℕ) (a : Item) → ItemAllowed x m p a → Once (children (insertAt (listOf m p) n a))
   once-put n (child e) h = once-insert e (listOf m p) n (h .2) (b .kept .once p)
   once-put n (text t) h = rw children-insert-text (b .kept .once p)
 
-  module _ (stands : MayStand x m p i) (item : ItemFits (withTexts x texts) i) (more : length (x .elements .texts) ≤ length texts)
+  module _ (allowed : ItemAllowed x m p i) (item : ItemInRange (withTexts x texts) i) (more : length (x .elements .texts) ≤ length texts)
       (range : p < count x) (room : contentItems m < itemLimit) where
     in-put : (q : Element) (a : Item) → In a (listOf (append m p i) q) → ((q ≡ p) × (a ≡ i)) ⊎ In a (listOf m q)
     unfolding append
     in-put q a h = insert-in m p (length (listOf m p)) i q a h
 
-    stands-at : (q : Element) (a : Item) → (q ≡ p) × (a ≡ i) → MayStand x m q a
-    stands-at q a h = rw (h .0, h .1) stands
+    allowed-at : (q : Element) (a : Item) → (q ≡ p) × (a ≡ i) → ItemAllowed x m q a
+    allowed-at q a h = rw (h .0, h .1) allowed
 
     kept-put : Kept (withTexts x texts) (record { model = append m p i; log = [] })
     unfolding append insertItem putList contentItems
@@ -303,10 +313,10 @@ module _ {x : Fixed} {m : Model} {above : List Element} (b : Built x m above) (t
           sets = b .kept .sets;
           lists = simp length-set (b .kept .lists);
           items = λ q a h. ⊎-elim (λ k. rw (k .1) item) (λ k. item-more more a (b .kept .items q a k)) (in-put q a h);
-          fits = λ q e h. fits-more q e (⊎-elim (λ k. stands-at q (child e) k .0) (b .kept .fits q e) (in-put q (child e) h));
+          fits = λ q e h. fits-more q e (⊎-elim (λ k. allowed-at q (child e) k .0) (b .kept .fits q e) (in-put q (child e) h));
           once =
               λ q.
-              insert-list m p (length (listOf m p)) i (λ (l : List Item). Once (children l)) q (λ e. rw e (once-put (length (listOf m p)) i stands))
+              insert-list m p (length (listOf m p)) i (λ (l : List Item). Once (children l)) q (λ e. rw e (once-put (length (listOf m p)) i allowed))
               (b .kept .once q);
           deep = b .kept .deep;
           parentRange = b .kept .parentRange;
@@ -322,21 +332,15 @@ module _ {x : Fixed} {m : Model} {above : List Element} (b : Built x m above) (t
     built-put =
         record {
           kept = kept-put;
-          owns = λ q e h. ⊎-elim (λ k. stands-at q (child e) k .1) (b .owns q e) (in-put q (child e) h);
-          fewElements = b .fewElements;
-          types = b .types;
-          depths = b .depths;
-          shallow = b .shallow;
-          rootDepth = b .rootDepth;
-          rootType = b .rootType;
+          owns = λ q e h. ⊎-elim (λ k. allowed-at q (child e) k .1) (b .owns q e) (in-put q (child e) h);
+          elements = b .elements;
           rootTop = b .rootTop;
           atDepth = b .atDepth;
           trees =
+              let old = b .trees .all in
               record {
-                fits = λ t h. tree-more t (b .trees .fits t h);
+                all = record { valid = λ t h. tree-more t (old .valid t h); oneFile = old .oneFile; oneRoot = old .oneRoot };
                 top = b .trees .top;
-                oneFile = b .trees .oneFile;
-                oneRoot = b .trees .oneRoot;
               };
         }
 
@@ -346,23 +350,23 @@ module _ {x : Fixed} {m : Model} {above : List Element} (b : Built x m above) wh
   -- all holds with a new element and its item in the list of its parent
   pub built-child : (n : Name) (d : ℕ) (s : FileSet) (p : Element) (row : SubElement) → count x < elementLimit → d ≤ depthLimit
       → contentItems m < itemLimit → partOf s (declaredFiles (x .schema)) ≡ true → p < count x → d ≡ suc (depthOf x p) → d ≤ length above
-      → findSubElement (x .schema) (typeOf x p) n allVersions ≡ some row
+      → rowOfName (x .schema) (typeOf x p) n ≡ some row
       → Built (withElement x (record { name = n; type = row .childType; depth = d; parent = some p; set = s }) (x .elements .trees))
       (addToModel (append m p (child (count x))) (some p) s) (take d above ++ (count x ∷ []))
   unfolding addToModel contentItems
   built-child n d s p row few low room part range deep front found =
-      let new : New = record { name = n; type = row .childType; depth = d; parent = some p; set = s } in
+      let new : NewElement = record { name = n; type = row .childType; depth = d; parent = some p; set = s } in
       let trees = x .elements .trees in
       let item = child (count x) in
-      let joins : Joins x new = record { below = λ q h. rw (sym (Option·some-injective p q h)) (range, deep); first = λ h. absurd (omega arith) } in
+      let joins : NewElementValid x new = record { below = λ q h. rw (sym (Option·some-injective p q h)) (range, deep); first = λ h. absurd (omega arith) } in
       let added = built-added b new trees joins few low part front (trees-added b new trees) in
-      let stands : MayStand (withElement x new trees) (addToModel m (some p) s) p item = (
+      let allowed : ItemAllowed (withElement x new trees) (addToModel m (some p) s) p item = (
         new-fits b new trees p range deep row found refl,
         new-parent b new trees,
         λ h. omega (arith, b .kept .items p item (rw (getD-snoc-default (m .lists) [] p) at h)),
       ) in
       rw (← append-added m p item (some p) s (rw (b .kept .lists) range))
-      (built-put added (x .elements .texts) p item stands (rw length-append (omega arith)) (le-refl _) (rw length-append (omega arith))
+      (built-put added (x .elements .texts) p item allowed (rw length-append (omega arith)) (le-refl _) (rw length-append (omega arith))
       (rw (total-add m (some p) s) room))
 
 -- ---- what the finished load has
@@ -371,21 +375,7 @@ module _ {x : Fixed} {m : Model} {above : List Element} (b : Built x m above) wh
 pub built-inv : {x : Fixed} {m : Model} {above : List Element} → Built x m above → 0 < count x → 0 < setOf m root → Inv x (record { model = m; log = [] })
 built-inv b h k =
     record {
-      static =
-          record {
-            some = h;
-            fewElements = b .fewElements;
-            types = b .types;
-            depths = b .depths;
-            shallow = b .shallow;
-            rootDepth = b .rootDepth;
-            rootType = b .rootType;
-            trees = b .trees .fits;
-            oneFile = b .trees .oneFile;
-            oneRoot = b .trees .oneRoot;
-          };
-      kept = b .kept;
-      rootSet = k;
+      sound = record { static = record { some = h; elements = b .elements; trees = b .trees .all }; kept = b .kept; rootSet = k };
       rootTop = b .rootTop;
       treeTop = b .trees .top;
       model = λ p _. b .owns p;
@@ -415,19 +405,17 @@ built-nothing deck sc =
             entries = each-nil _;
           };
       owns = λ p e h. absurd (List·Memᴰ·not-nil h);
-      fewElements = zero-le;
-      types = refl;
-      depths = refl;
-      shallow = λ e. zero-le;
-      rootDepth = refl;
-      rootType = refl;
+      elements = record { few = zero-le; types = refl; depths = refl; shallow = λ e. zero-le; rootDepth = refl; rootType = refl };
       rootTop = refl;
       atDepth = λ d p h. absurd (Option·none-ne-some p h);
       trees =
           record {
-            fits = each-nil _;
+            all =
+                record {
+                  valid = each-nil _;
+                  oneFile = λ t u h. absurd (List·Memᴰ·not-nil h);
+                  oneRoot = λ t u h. absurd (List·Memᴰ·not-nil h);
+                };
             top = each-nil _;
-            oneFile = λ t u h. absurd (List·Memᴰ·not-nil h);
-            oneRoot = λ t u h. absurd (List·Memᴰ·not-nil h);
           };
     }

@@ -1,4 +1,4 @@
--- What stands above a mark, and which numbers are marks. Assumes nothing.
+-- The entries above a mark, and which numbers are marks. Assumes nothing.
 use mathlib.Core.Bool.{true, false≢true}
 use mathlib.Core.List.{[], _∷_, _++_}
 use mathlib.Core.Path.{_≡_, refl, sym, _∙_}
@@ -10,10 +10,10 @@ use lib.ListN.{length, drop, length-append, length-take}
 use lib.Seq.{drop-append-add}
 use Rattle.tables.specs.Lists.{keep}
 use Rattle.tables.specs.Records.{Entry, import, restriction, extension, Log, State}
+use Rattle.tables.proofs.Laws.Cases.{bool-case}
 use Rattle.merge_rules.specs.Book.{sumOf}
 use Rattle.merge_rules.specs.Calls.{isImport, isRestriction, isExtension, countsOf, entriesAbove}
 use Rattle.merge_rules.specs.Log.{isMark, endsMerge, isRootExtension}
-use Rattle.merge_rules.proofs.Laws.Cases.{bool-case}
 use Rattle.merge_rules.proofs.Laws.Steps.{Steps}
 use Rattle.merge_rules.proofs.Laws.Undo.{steps-log}
 

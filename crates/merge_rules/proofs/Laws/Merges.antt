@@ -14,13 +14,14 @@ use Rattle.tables.specs.Limits.{depthLimit, logLimit}
 use Rattle.tables.specs.Records.{Element, FileNumber, Tree, child, Model, extension, State, Fixed, root, parentOf, setOf, listOf, putSet}
 use Rattle.tables.proofs.Laws.FileSets.{holds-withFile, holds-withFile-other, withFile-positive}
 use Rattle.tables.proofs.Laws.Model.{set-putSet}
+use Rattle.tables.proofs.Laws.Cases.{bool-case}
 use Rattle.merge_rules.specs.Book.{sumOf}
 use Rattle.merge_rules.specs.Calls.{Counts, countsOf, entriesAbove, merged, mergeRefused, Merged, mergedFrom, mergeTree, merge}
 use Rattle.merge_rules.specs.Log.{isRootExtension, endsMerge}
 use Rattle.merge_rules.specs.Refusals.{Refusal, Outcome}
 use Rattle.merge_rules.specs.Sound.{In}
-use Rattle.merge_rules.proofs.Laws.Cases.{bool-case, option-case, Result, isDone, isConflict, isRefused, done-bind}
-use Rattle.merge_rules.proofs.Laws.Chains.{under-cast, one-top, tree-apart, common-right}
+use Rattle.merge_rules.proofs.Laws.Cases.{option-case, IfDone, isDone, isConflict, isRefused, done-bind}
+use Rattle.merge_rules.proofs.Laws.Chains.{under-cast, one-top, tree-disjoint, common-right}
 use Rattle.merge_rules.proofs.Laws.Changes.{extend-ok, kept-extend}
 use Rattle.merge_rules.proofs.Laws.Invariant.{Under, here, below, Owns, Inv}
 use Rattle.merge_rules.proofs.Laws.Levels.{Ready, Level, level-ok}
@@ -46,11 +47,11 @@ module _ (x : Fixed) (s : State) (inv : Inv x s) (tr : Tree) (among : In tr (x .
       record {
         inModel = here refl;
         inTree = here refl;
-        range = inv .static .some;
-        depth = inv .static .rootDepth ∙ sym (inv .static .trees tr among .depth);
-        type = inv .static .rootType ∙ sym (inv .static .trees tr among .type);
-        declared = inv .kept .declared root;
-        kept = inv .kept;
+        range = inv .sound .static .some;
+        depth = inv .sound .static .elements .rootDepth ∙ sym (inv .sound .static .trees .valid tr among .depth);
+        type = inv .sound .static .elements .rootType ∙ sym (inv .sound .static .trees .valid tr among .type);
+        declared = inv .sound .kept .declared root;
+        kept = inv .sound .kept;
         listsA = λ p h. refl;
         listsB = λ p h. refl;
         parents = λ e h. refl;
@@ -73,7 +74,7 @@ module _ (x : Fixed) (s : State) (inv : Inv x s) (tr : Tree) (among : In tr (x .
         in-model old v =
             let own : parentOf start e ≡ some p = inv .model p v e old in
             ⊎-elim (λ k. k ∙ own)
-            (λ k. absurd (tree-apart inv tr among (below own v) (k .within))) (moves .parents e)
+            (λ k. absurd (tree-disjoint inv tr among (below own v) (k .within))) (moves .parents e)
 
         in-tree : In (child e) (listOf start p) → Under start (tr .root) p → parentOf n e ≡ some p
         in-tree old v =
@@ -81,7 +82,7 @@ module _ (x : Fixed) (s : State) (inv : Inv x s) (tr : Tree) (among : In tr (x .
             ⊎-elim (λ k. k ∙ own)
             (λ k.
             absurd
-            (inv .static .trees tr among .apart
+            (inv .sound .static .trees .valid tr among .notRoot
             (sym
             (one-top u (under-cast (mem-unique (k .owned) own) (common-right (k .chain))) (top-kept root (inv .rootTop))
             (top-kept (tr .root) (inv .treeTop tr among))))))
@@ -94,12 +95,12 @@ module _ (x : Fixed) (s : State) (inv : Inv x s) (tr : Tree) (among : In tr (x .
       under-waiting (here z) = here z
       under-waiting (below {p} h u) =
           ⊎-elim (λ k. below (sym k ∙ h) (under-waiting u))
-          (λ k. absurd (tree-apart inv t amongT (under-cast (mem-unique (k .given) h) (k .taken)) (under-waiting u))) (moves .parents p)
+          (λ k. absurd (tree-disjoint inv t amongT (under-cast (mem-unique (k .given) h) (k .taken)) (under-waiting u))) (moves .parents p)
 
       owns-waiting : (p : Element) → Under n (t .root) p → Owns n p
       owns-waiting p u e i =
           let v : Under start (t .root) p = under-waiting u in
-          let own : parentOf start e ≡ some p = inv .waiting t amongT waitsT p v e (rw (moves .lists p (λ k. tree-apart inv t amongT k v)) at i) in
+          let own : parentOf start e ≡ some p = inv .waiting t amongT waitsT p v e (rw (moves .lists p (λ k. tree-disjoint inv t amongT k v)) at i) in
           ⊎-elim (λ k. k ∙ own)
           (λ k. absurd (other (one-top (below own v) (k .within) (inv .treeTop t amongT) (inv .treeTop tr among)))) (moves .parents e)
 
@@ -111,7 +112,7 @@ module _ (x : Fixed) (s : State) (inv : Inv x s) (tr : Tree) (among : In tr (x .
     -- the root's set gains the file of the tree
     root-after : setOf (after .model) root ≡ withFile (loadedFiles start) (tr .file)
     root-after =
-        set-putSet (u .model) root _ (omega (arith, inv .static .some, level .kept .sets)) ∙ ap (λ v. withFile v (tr .file)) (level .rootSet)
+        set-putSet (u .model) root _ (omega (arith, inv .sound .static .some, level .kept .sets)) ∙ ap (λ v. withFile v (tr .file)) (level .rootSet)
 
     waits-after : (t : Tree) → holds (loadedFiles (after .model)) (t .file) ≡ false
         → (t .file ≡ tr .file → ⊥) × (holds (loadedFiles start) (t .file) ≡ false)
@@ -124,16 +125,19 @@ module _ (x : Fixed) (s : State) (inv : Inv x s) (tr : Tree) (among : In tr (x .
     after-inv =
         let moves = moves-put root (withFile (setOf (u .model) root) (tr .file)) (level .moves) in
         record {
-          static = inv .static;
-          kept = kept-extend (level .kept) root (tr .file) (inv .static .some) (inv .static .trees tr among .declared) few;
-          rootSet = rw root-after (withFile-positive (loadedFiles start) (tr .file));
+          sound =
+              record {
+                static = inv .sound .static;
+                kept = kept-extend (level .kept) root (tr .file) (inv .sound .static .some) (inv .sound .static .trees .valid tr among .declared) few;
+                rootSet = rw root-after (withFile-positive (loadedFiles start) (tr .file));
+              };
           rootTop = top-kept moves root (inv .rootTop);
           treeTop = λ t i. top-kept moves (t .root) (inv .treeTop t i);
           model = owns-model moves;
           waiting =
               λ t i w.
               let (differ, w′) = waits-after t w in
-              owns-waiting moves t i (λ z. differ (ap (λ (y : Tree). y .file) (inv .static .oneRoot t tr i among z))) w′;
+              owns-waiting moves t i (λ z. differ (ap (λ (y : Tree). y .file) (inv .sound .static .trees .oneRoot t tr i among z))) w′;
         }
 
     after-merge : IsMerge s after (sumOf (countsOf (entriesAbove (length (s .log)) (after .log))))
@@ -149,7 +153,7 @@ module _ (x : Fixed) (s : State) (inv : Inv x s) (tr : Tree) (among : In tr (x .
               mark-below k (extension root (tr .file) ∷ []) (u .log) (omega arith) ∙ unmarked-marks (level .unmarked) k h (omega arith);
         }
 
-  tree-ok : Result (Accepted x s) (Steps s) (mergeTree x tr s)
+  tree-ok : IfDone (Accepted x s) (Steps s) (mergeTree x tr s)
   unfolding mergeTree
   tree-ok =
       done-bind (level-ok x s inv tr among waits (suc depthLimit) (loadedFiles start) root (tr .root) s ready-root)
@@ -176,7 +180,7 @@ same-counts h = cc
 not-merged : {c : Counts} {r : Refusal} → mergeRefused r ≡ merged c → ⊥
 not-merged h = let z : _≡_ {A = ℕ} 0 1 = cc in omega arith
 
-outcome-merged : (x : Fixed) (s t : State) (c : Counts) {o : Outcome} → Result (Accepted x s) (Steps s) o
+outcome-merged : (x : Fixed) (s t : State) (c : Counts) {o : Outcome} → IfDone (Accepted x s) (Steps s) o
     → mergedFrom s o ≡ record { answer = merged c; state = t } → IsMerge s t (sumOf c) × Inv x t
 unfolding mergedFrom
 outcome-merged x s t c (isDone h) e =

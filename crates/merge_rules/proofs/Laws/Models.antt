@@ -22,7 +22,7 @@ module _ (m : Model) (p : Element) (at : ℕ) (i : Item) where
   insert-list P q new old =
       getD-set P (m .lists) p _ [] q (λ e. subst (λ (r : Element). P (insertAt (listOf m r) at i)) e (new e)) old
 
-  -- an item of a list then is the new one or stood there before
+  -- an item of a list then is the new one or was there before
   pub insert-in : (q : Element) (a : Item) → In a (listOf (insertItem m p at i) q) → ((q ≡ p) × (a ≡ i)) ⊎ In a (listOf m q)
   insert-in q a =
       insert-list (λ (l : List Item). In a l → ((q ≡ p) × (a ≡ i)) ⊎ In a (listOf m q)) q
@@ -56,7 +56,7 @@ module _ (f : FileNumber) (p e : Element) (at : ℕ) (m : Model) where
   unfolding adopt insertItem putList putParent putSet
   adopt-set-other q h = getD-set-other (m .sets) e q _ 0 h
 
-  -- an item of a list then is the element imported or stood there before
+  -- an item of a list then is the element imported or was there before
   pub adopt-in : (q : Element) (i : Item) → In i (listOf (adopt f p e at m) q) → ((q ≡ p) × (i ≡ child e)) ⊎ In i (listOf m q)
   unfolding adopt putParent putSet
   adopt-in q i h = insert-in m p at (child e) q i h

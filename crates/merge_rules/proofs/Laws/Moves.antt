@@ -60,7 +60,7 @@ pub record Moves (start : Model) (F A : Element → Type 0) (b : Element) (m m�
   pub parents : (e : Element) → (parentOf m′ e ≡ parentOf m e) ⊎ Moved start F A b m′ e
 
 -- a path with no mark within that keeps the root's set, with what it moves
-pub record Stretch (x : Fixed) (start : Model) (F A : Element → Type 0) (b : Element) (t u : State) : Type 0 where
+pub record MergeSteps (x : Fixed) (start : Model) (F A : Element → Type 0) (b : Element) (t u : State) : Type 0 where
   pub unmarked : Unmarked t u
   pub kept : Kept x u
   pub rootSet : setOf (u .model) root ≡ setOf (t .model) root
@@ -86,9 +86,9 @@ module _ {start : Model} {F G A B : Element → Type 0} (f : (p : Element) → F
       }
 
   -- more may be changed and moved, below another b
-  pub stretch-map : {x : Fixed} {t u : State} → ((q : Element) → Common start (u .model) b q → Common start (u .model) b′ q)
-      → Stretch x start F A b t u → Stretch x start G B b′ t u
-  stretch-map chain h =
+  pub merge-steps-map : {x : Fixed} {t u : State} → ((q : Element) → Common start (u .model) b q → Common start (u .model) b′ q)
+      → MergeSteps x start F A b t u → MergeSteps x start G B b′ t u
+  merge-steps-map chain h =
       record {
         unmarked = h .unmarked;
         kept = h .kept;
@@ -103,9 +103,9 @@ module _ {start : Model} {F G A B : Element → Type 0} (f : (p : Element) → F
       }
 
 -- more may be changed and moved
-pub stretch-widen : {x : Fixed} {start : Model} {F G A B : Element → Type 0} {b : Element} {t u : State} → ((p : Element) → F p → G p)
-    → ((e : Element) → A e → B e) → Stretch x start F A b t u → Stretch x start G B b t u
-stretch-widen f g h = stretch-map f g (λ q c. c) h
+pub merge-steps-widen : {x : Fixed} {start : Model} {F G A B : Element → Type 0} {b : Element} {t u : State} → ((p : Element) → F p → G p)
+    → ((e : Element) → A e → B e) → MergeSteps x start F A b t u → MergeSteps x start G B b t u
+merge-steps-widen f g h = merge-steps-map f g (λ q c. c) h
 
 module _ {start : Model} {b : Element} where
   common-same : {m m′ : Model} → ((e : Element) → parentOf m′ e ≡ parentOf m e) → {q : Element} → Common start m b q → Common start m′ b q
@@ -118,9 +118,9 @@ module _ {start : Model} {b : Element} where
   common-closed closed h (up {p} {q} e e′ c) k =
       ⊎-elim (λ z. at z) (λ a. up e (h p a ∙ e′) (common-closed closed h c (closed p q a e))) k
 
-  module _ {F A B : Element → Type 0} (closed : Closed start A b) (apart : (e : Element) → A e → B e → ⊥) where
+  module _ {F A B : Element → Type 0} (closed : Closed start A b) (disjoint : (e : Element) → A e → B e → ⊥) where
     keeps : {m m′ : Model} → Moves start F B b m m′ → (e : Element) → A e → parentOf m′ e ≡ parentOf m e
-    keeps k e a = ⊎-elim (λ h. h) (λ h. absurd (apart e a (h .within))) (k .parents e)
+    keeps k e a = ⊎-elim (λ h. h) (λ h. absurd (disjoint e a (h .within))) (k .parents e)
 
     moves-trans : {m m′ m″ : Model} → Moves start F A b m m′ → Moves start F B b m′ m″ → Moves start F (λ (e : Element). A e ⊎ B e) b m m″
     moves-trans h k =
@@ -143,9 +143,9 @@ module _ {start : Model} {b : Element} where
         }
 
     -- two stretches that move different elements
-    pub stretch-trans : {x : Fixed} {t u v : State} → Stretch x start F A b t u → Stretch x start F B b u v
-        → Stretch x start F (λ (e : Element). A e ⊎ B e) b t v
-    stretch-trans h k =
+    pub merge-steps-trans : {x : Fixed} {t u v : State} → MergeSteps x start F A b t u → MergeSteps x start F B b u v
+        → MergeSteps x start F (λ (e : Element). A e ⊎ B e) b t v
+    merge-steps-trans h k =
         record {
           unmarked = unmarked-append (h .unmarked) (k .unmarked);
           kept = k .kept;
@@ -155,8 +155,8 @@ module _ {start : Model} {b : Element} where
 
   module _ {F A : Element → Type 0} where
     -- a path of no change
-    pub stretch-still : {x : Fixed} {t : State} → Kept x t → Stretch x start F A b t t
-    stretch-still k =
+    pub merge-steps-still : {x : Fixed} {t : State} → Kept x t → MergeSteps x start F A b t t
+    merge-steps-still k =
         record { unmarked = still; kept = k; rootSet = refl; moves = record { lists = λ p n. refl; new = λ p e i. inl i; parents = λ e. inl refl } }
 
     -- a set put moves nothing
@@ -173,11 +173,11 @@ module _ {start : Model} {b : Element} where
         }
 
     -- a set put, of another element than the root
-    pub stretch-put : {x : Fixed} {t u : State} → Stretch x start F A b t u → (e : Element) (v : FileSet) {entry : Entry} → (e ≡ root → ⊥)
+    pub merge-steps-put : {x : Fixed} {t u : State} → MergeSteps x start F A b t u → (e : Element) (v : FileSet) {entry : Entry} → (e ≡ root → ⊥)
         → Change (u .model) entry (putSet (u .model) e v) → isRootExtension entry ≡ false
         → Kept x (record { model = putSet (u .model) e v; log = entry ∷ u .log })
-        → Stretch x start F A b t (record { model = putSet (u .model) e v; log = entry ∷ u .log })
-    stretch-put {u} h e v other c plain k =
+        → MergeSteps x start F A b t (record { model = putSet (u .model) e v; log = entry ∷ u .log })
+    merge-steps-put {u} h e v other c plain k =
         record {
           unmarked = more (h .unmarked) c plain;
           kept = k;

@@ -10,11 +10,11 @@ use lib.Dec.{eqb}
 use lib.ListN.{length}
 use Rattle.tables.specs.Lists.{anyOf, keep}
 use Rattle.tables.specs.Records.{Element, Item, child, text}
+use Rattle.tables.proofs.Laws.Cases.{bool-case}
 use Rattle.table_test.specs.ModelTest.{sameChild, onceIn}
 use Rattle.table_test.proofs.Laws.Scans.{any-text}
 use Rattle.merge_rules.specs.Pairing.{children}
 use Rattle.merge_rules.specs.Sound.{In, Once, once-nil, once-cons}
-use Rattle.merge_rules.proofs.Laws.Cases.{bool-case}
 use Rattle.merge_rules.proofs.Laws.Lists.{each-nil, each-cons, anyOf-none, in-children, once-head, once-tail}
 
 -- ---- children of a list
@@ -41,7 +41,7 @@ abbrev without : ℕ → List ℕ → List ℕ
 without n l = keep (λ (y : ℕ). not (eqb y n)) l
 
 module _ {A : Type 0} (t : A → Bool) where
-  -- an entry that is kept passes the test and stood in the list
+  -- an entry that is kept passes the test and was in the list
   keep-in : (l : List A) (a : A) → In a (keep t l) → (t a ≡ true) × In a l
   unfolding keep
   keep-in [] = each-nil _

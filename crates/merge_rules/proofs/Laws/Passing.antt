@@ -10,13 +10,13 @@ use Rattle.tables.proofs.Laws.SchemaTable.{schema-back}
 use Rattle.table_test.proofs.Laws.Passing.{tables-pass}
 use Rattle.state_test.specs.StateTest.{lentTablesPass}
 use Rattle.merge_rules.specs.Sound.{Sound, Passes}
-use Rattle.merge_rules.proofs.Laws.Loaded.{Ranged}
-use Rattle.merge_rules.proofs.Laws.PassingState.{state-stands}
+use Rattle.merge_rules.proofs.Laws.Loaded.{FixedInRange}
+use Rattle.merge_rules.proofs.Laws.PassingState.{state-valid}
 use Rattle.merge_rules.proofs.Laws.PassingTables.{schema-in, elements-in, model-in, log-in, deeper}
 
-pub passes : (deck : List ℕ) (x : Fixed) (s : State) → Ranged deck x → Sound x s → Passes deck x s
+pub sound-passes : (deck : List ℕ) (x : Fixed) (s : State) → FixedInRange deck x → Sound x s → Passes deck x s
 unfolding lentTablesPass
-passes deck x s r h =
+sound-passes deck x s r h =
     let schema = schema-in (x .schema) (r .schema) in
     let elements = elements-in deck x r (h .static) in
     let model = model-in deck x r (h .static) s (h .kept) in
@@ -29,4 +29,4 @@ passes deck x s r h =
       log-back (s .log),
       ← r .read,
     )
-    (state-stands deck x r s h)
+    (state-valid deck x r s h)

@@ -9,7 +9,7 @@ use borrow.Author.Tests.{eqb-true, eqb-false}
 use lib.Dec.{eqb}
 use lib.ListN.{length, getD, length-map}
 use Rattle.tables.specs.Cells.{Each}
-use Rattle.tables.specs.Limits.{fileLimit, depthLimit, deckLimit}
+use Rattle.tables.specs.Limits.{typeLimit, partLimit, fileLimit, depthLimit, deckLimit}
 use Rattle.tables.specs.Lists.{anyOf}
 use Rattle.tables.specs.Records.{Element, FileNumber, File, Schema, Text, enumNumber, string, wholeNumber, float, Tree, Item, child, text, Entry, import, restriction, extension, Fixed, State, listOf}
 use Rattle.tables.specs.SchemaTable.{GroupFits, RowFits}
@@ -17,22 +17,21 @@ use Rattle.tables.specs.ElementsTable.{TextFits}
 use Rattle.tables.specs.ModelTable.{ParentBelow, ItemBelow}
 use Rattle.tables.specs.LogTable.{EntryFits}
 use Rattle.tables.proofs.Laws.Cells.{each-imp}
+use Rattle.tables.proofs.Laws.Cases.{bool-split}
 use Rattle.table_test.specs.ElementsTest.{TextIn, TreeIn}
 use Rattle.table_test.specs.LogTest.{EntryIn}
 use Rattle.table_test.specs.ModelTest.{onceIn}
 use Rattle.table_test.specs.Passing.{GroupPassing, RowPassing, SchemaIn, ElementsIn, ItemTextIn, ModelIn, OneDeeper, LogIn}
-use Rattle.table_test.specs.SchemaTest.{partLimit, TypeIn, FilesIn}
+use Rattle.table_test.specs.SchemaTest.{TypeIn, FilesIn}
 use Rattle.table_test.proofs.Laws.LogTest.{entry-weaker}
 use Rattle.deck.specs.Schema.{declaresFile}
-use Rattle.state_test.specs.StateTest.{treesApart}
-use Rattle.merge_rules.specs.Sound as sound
-use Rattle.merge_rules.specs.Sound.{In, count, Once, once-nil, once-cons, Static, ItemFits, Kept}
-use Rattle.merge_rules.proofs.Laws.Cases.{bool-split}
-use Rattle.merge_rules.proofs.Laws.Elements.{apart-first}
+use Rattle.state_test.specs.StateTest.{treeFilesDistinct}
+use Rattle.merge_rules.specs.Sound.{In, count, Once, once-nil, once-cons, Static, ItemInRange, EntryValid, Kept}
+use Rattle.merge_rules.proofs.Laws.Elements.{distinct-first}
 use Rattle.merge_rules.proofs.Laws.Lists.{map-in, anyOf-false, in-each, at-each, flat-each, at-in}
-use Rattle.merge_rules.proofs.Laws.Loaded.{Ranged}
+use Rattle.merge_rules.proofs.Laws.Loaded.{FixedInRange}
 use Rattle.merge_rules.proofs.Laws.Once.{once-in, once-below}
-use Rattle.merge_rules.proofs.Laws.Parse.{SchemaFits}
+use Rattle.merge_rules.proofs.Laws.Parse.{SchemaInRange}
 
 -- ---- schema
 
@@ -49,9 +48,9 @@ file-below low (d ∷ fs) h f k =
     (λ e. file-below (d .file + 1) fs (h .3) f (rw (anyOf, e) at k))
 
 -- a schema whose rows fit
-pub schema-in : (sc : Schema) → SchemaFits sc → SchemaIn sc
+pub schema-in : (sc : Schema) → SchemaInRange sc → SchemaIn sc
 schema-in sc h =
-    let few : length (sc .types) ≤ 128 = h .types .few in
+    let few : length (sc .types) ≤ typeLimit = h .types .few in
     record {
       sized =
           record {
@@ -66,12 +65,12 @@ schema-in sc h =
       groups =
           in-each GroupPassing (sc .groups) (λ g i.
           let (fits, known) = h .groups .fit g i in
-          ((omega arith, fits .path .some, fits .path .few), in-each (λ (a : ℕ). a < partLimit) (g .path) (fits .path .parts), fits .mode));
+          ((omega arith, fits .path .some, fits .path .few), in-each (λ (a : ℕ). a ≤ partLimit) (g .path) (fits .path .parts), fits .mode));
       rows =
           in-each RowPassing (sc .subElements) (λ r i.
           let (fits, known, below) = h .rows .fit r i in (
             (omega arith, fits .path .some, fits .name, omega arith, fits .someVersion, fits .mask),
-            in-each (λ (a : ℕ). a < partLimit) (r .path) (fits .path .parts),
+            in-each (λ (a : ℕ). a ≤ partLimit) (r .path) (fits .path .parts),
           ));
       files = h .files;
     }
@@ -84,15 +83,15 @@ text-fits size few (string p) h = omega arith
 text-fits size few (wholeNumber n) h = tt
 text-fits size few (float b) h = tt
 
-apart-once : (ts : List Tree) → treesApart ts ≡ true → Once (map Tree.file ts)
-apart-once [] h = once-nil
-apart-once (t ∷ ts) h =
-    let (first, later) = apart-first t ts h in
+distinct-once : (ts : List Tree) → treeFilesDistinct ts ≡ true → Once (map Tree.file ts)
+distinct-once [] h = once-nil
+distinct-once (t ∷ ts) h =
+    let (first, later) = distinct-first t ts h in
     once-cons
     (λ i. map-in (λ (n : ℕ). n ≡ t .file → ⊥) Tree.file ts (λ u j. eqb-false (u .file) (t .file) (anyOf-false _ ts first u j)) (t .file) i refl)
-    (apart-once ts later)
+    (distinct-once ts later)
 
-module _ (deck : List ℕ) (x : Fixed) (r : Ranged deck x) (static : Static x) where
+module _ (deck : List ℕ) (x : Fixed) (r : FixedInRange deck x) (static : Static x) where
   declared-below : (f : FileNumber) → declaresFile (x .schema) f ≡ true → f < fileLimit
   unfolding declaresFile
   declared-below f h = file-below 0 (x .schema .files) (r .schema .files) f h
@@ -101,8 +100,8 @@ module _ (deck : List ℕ) (x : Fixed) (r : Ranged deck x) (static : Static x) w
   trees-few =
       let ts : List Tree = x .elements .trees in
       let few =
-      once-below fileLimit (map Tree.file ts) (apart-once ts (r .elements .trees))
-      (map-in (λ (n : ℕ). n < fileLimit) Tree.file ts (λ t i. declared-below (t .file) (static .trees t i .declared))) in
+      once-below fileLimit (map Tree.file ts) (distinct-once ts (r .elements .trees))
+      (map-in (λ (n : ℕ). n < fileLimit) Tree.file ts (λ t i. declared-below (t .file) (static .trees .valid t i .declared))) in
       omega (arith, length-map ts Tree.file)
 
   -- the elements
@@ -111,29 +110,29 @@ module _ (deck : List ℕ) (x : Fixed) (r : Ranged deck x) (static : Static x) w
       record {
         sized =
             record {
-              sameTypes = static .types;
-              sameDepths = static .depths;
-              count = static .fewElements;
+              sameTypes = static .elements .types;
+              sameDepths = static .elements .depths;
+              count = static .elements .few;
               textCount = r .fewTexts;
               treeCount = trees-few;
               strings = each-imp (TextIn (length deck)) TextFits (x .elements .texts) (text-fits (length deck) (r .size)) (r .elements .texts);
             };
         names = r .elements .names;
         typesIn = r .elements .types;
-        depths = at-each (λ (d : ℕ). d ≤ depthLimit) (x .elements .depths) 0 (static .shallow);
+        depths = at-each (λ (d : ℕ). d ≤ depthLimit) (x .elements .depths) 0 (static .elements .shallow);
         texts = r .elements .texts;
         trees =
-            in-each (TreeIn (count x)) (x .elements .trees) (λ t i. (declared-below (t .file) (static .trees t i .declared), static .trees t i .inRange));
+            in-each (TreeIn (count x)) (x .elements .trees) (λ t i. (declared-below (t .file) (static .trees .valid t i .declared), static .trees .valid t i .inRange));
       }
 
   -- ---- model and log
 
   module _ (s : State) (k : Kept x s) where
-    item-below : (i : Item) → ItemFits x i → ItemBelow (length (s .model .parents)) i
+    item-below : (i : Item) → ItemInRange x i → ItemBelow (length (s .model .parents)) i
     item-below (child e) h = rw (k .parents) h
     item-below (text t) h = omega (arith, r .fewTexts)
 
-    item-text : (i : Item) → ItemFits x i → ItemTextIn (length (x .elements .texts)) i
+    item-text : (i : Item) → ItemInRange x i → ItemTextIn (length (x .elements .texts)) i
     item-text (child e) h = tt
     item-text (text t) h = h
 
@@ -152,7 +151,7 @@ module _ (deck : List ℕ) (x : Fixed) (r : Ranged deck x) (static : Static x) w
               record {
                 sets = k .sets ∙ sym (k .parents);
                 lists = k .lists ∙ sym (k .parents);
-                count = rw (k .parents) (static .fewElements);
+                count = rw (k .parents) (static .elements .few);
                 total = k .fewItems;
                 parentsIn = at-each (ParentBelow (length (s .model .parents))) (s .model .parents) none parent-below;
                 itemsIn = flat-each (ItemBelow (length (s .model .parents))) (s .model .lists) (λ p i h. item-below i (k .items p i h));
@@ -173,7 +172,7 @@ module _ (deck : List ℕ) (x : Fixed) (r : Ranged deck x) (static : Static x) w
     old-parent none h = tt
     old-parent (some q) h = h q refl
 
-    entry-in : (e : Entry) → sound.EntryFits x e → EntryIn (count x) e
+    entry-in : (e : Entry) → EntryValid x e → EntryIn (count x) e
     entry-in (import e p o old) h = (h .0, h .1, old-parent o (h .2))
     entry-in (restriction e old) h = h .0
     entry-in (extension e f) h = (h .0, declared-below f (h .1))
@@ -183,6 +182,6 @@ module _ (deck : List ℕ) (x : Fixed) (r : Ranged deck x) (static : Static x) w
     log-in =
         let entries : Each (EntryIn (count x)) (s .log) = in-each (EntryIn (count x)) (s .log) (λ e i. entry-in e (k .entries e i)) in
         record {
-          sized = record { fits = k .fewEntries; parts = each-imp (EntryIn (count x)) EntryFits (s .log) (λ e. entry-weaker (count x) e (static .fewElements)) entries };
+          sized = record { fits = k .fewEntries; parts = each-imp (EntryIn (count x)) EntryFits (s .log) (λ e. entry-weaker (count x) e (static .elements .few)) entries };
           entries = entries;
         }

@@ -6,7 +6,7 @@ use native.Mathlib.Nat.{zero-add}
 use native.Mathlib.Omega.{arith}
 use lib.ListN.{length}
 use Rattle.tables.specs.Records.{Element, Name, Version, Mode, sequence, choice, bag, mixed, characters, Mult, atMostOne, one, any, SubElement, Item, child, text, Model, Fixed, nameOf, typeOf, listOf}
-use Rattle.deck.specs.Schema.{findSubElement, versionMask, allVersions}
+use Rattle.deck.specs.Schema.{findSubElement, rowOfName, versionMask}
 use Rattle.merge_rules.specs.Range.{Range, places, noRow, conflicting, Move, stop, move, clash, equalPath, moveBy, moveAt, readContent, rangeIn, calcElementInsertRange}
 use Rattle.merge_rules.proofs.Laws.Cases.{option-case}
 
@@ -45,7 +45,7 @@ item-fits : (x : Fixed) (p : Element) (new : SubElement) (i : Item) (index first
 unfolding moveAt
 item-fits x p new (text t) index first last h k = omega arith
 item-fits x p new (child e) index first last h k =
-    option-case (MoveFits index) (findSubElement (x .schema) (typeOf x p) (nameOf x e) allVersions) (λ _. omega arith)
+    option-case (MoveFits index) (rowOfName (x .schema) (typeOf x p) (nameOf x e)) (λ _. omega arith)
     (λ old _. move-fits _ _ (new .mult) first index (omega arith))
 
 move-case : (P : Range → Type 0) (index : ℕ) (m : Move) {u w : Range} {v : ℕ → ℕ → Range} → MoveFits index m → P u

@@ -9,7 +9,7 @@ use lib.ListN.{length, take}
 use Rattle.tables.specs.Records.{Element, Item, child, text, Model, Fixed, depthOf, textOf, parentOf, listOf}
 use Rattle.merge_rules.specs.Pairing.{children}
 use Rattle.merge_rules.specs.Program.{textLine, elementLine, itemLines, elementLines}
-use Rattle.merge_rules.specs.Sound.{In, count, Once, ItemFits}
+use Rattle.merge_rules.specs.Sound.{In, count, Once, ItemInRange}
 use Rattle.merge_rules.proofs.Laws.Lists.{once-head, once-tail, child-same, in-children}
 use Rattle.merge_rules.proofs.Laws.Loading.{Built}
 
@@ -25,8 +25,8 @@ pub record Grown (x : Fixed) (m : Model) (x′ : Fixed) (m′ : Model) (p : Elem
   pub text : (d t : ℕ) → t < length (x .elements .texts) → textLine x′ d (textOf x′ t) ≡ textLine x d (textOf x t)
 
 -- every item is an element or a text that there is
-abbrev pub ItemsFit : Fixed → Model → Type 0
-ItemsFit x m = (p : Element) (i : Item) → In i (listOf m p) → ItemFits x i
+abbrev pub ItemsInRange : Fixed → Model → Type 0
+ItemsInRange x m = (p : Element) (i : Item) → In i (listOf m p) → ItemInRange x i
 
 -- the items of two lists, one behind the other
 items-append : (lower : Element → List ℕ) (x : Fixed) (d : ℕ) (l k : List Item) → itemLines lower x d (l ++ k) ≡ itemLines lower x d l ++ itemLines lower x d k
@@ -37,7 +37,7 @@ items-append lower x d (text t ∷ l) k =
     rw (items-append lower x d l k) (sym (append-assoc (textLine x d (textOf x t)) (itemLines lower x d l) (itemLines lower x d k)))
 
 module _ {x : Fixed} {m : Model} {x′ : Fixed} {m′ : Model} {p : Element} (g : Grown x m x′ m′ p) where
-  items-same : (lower′ lower : Element → List ℕ) (d : ℕ) (l : List Item) → ((i : Item) → In i l → ItemFits x i)
+  items-same : (lower′ lower : Element → List ℕ) (d : ℕ) (l : List Item) → ((i : Item) → In i l → ItemInRange x i)
       → ((e : Element) → In (child e) l → lower′ e ≡ lower e) → itemLines lower′ x′ d l ≡ itemLines lower x d l
   unfolding itemLines
   items-same lower′ lower d [] fit h = refl
@@ -50,13 +50,13 @@ module _ {x : Fixed} {m : Model} {x′ : Fixed} {m′ : Model} {p : Element} (g 
       )
 
   -- elements that p is not among, nor any below them
-  module _ (fit : ItemsFit x m) (P : Element → Type 0) (closed : (e c : Element) → P e → In (child c) (listOf m e) → P c)
-      (apart : (e : Element) → P e → (e < count x) × (e ≡ p → ⊥)) where
+  module _ (fit : ItemsInRange x m) (P : Element → Type 0) (closed : (e c : Element) → P e → In (child c) (listOf m e) → P c)
+      (outside : (e : Element) → P e → (e < count x) × (e ≡ p → ⊥)) where
     pub lines-kept : (n : ℕ) (e : Element) → P e → elementLines n x′ m′ e ≡ elementLines n x m e
     unfolding elementLines
     lines-kept zero e h = refl
     lines-kept (suc n) e h =
-        let a : (e < count x) × (e ≡ p → ⊥) = apart e h in
+        let a : (e < count x) × (e ≡ p → ⊥) = outside e h in
         rw (g .line e (a .0), g .depth e (a .0), g .list e (a .0) (a .1))
         (ap (λ (r : List ℕ). elementLine x m e ++ r)
         (items-same (elementLines n x′ m′) (elementLines n x m) (suc (depthOf x e)) (listOf m e) (fit e) (λ c k. lines-kept n c (closed e c h k))))
@@ -78,10 +78,20 @@ abbrev pub Open : Fixed → Model → ℕ → Option Element → List Element �
 Open x m d o [] = Unit
 Open x m d o (a ∷ as′) = (a < count x) × (depthOf x a ≡ d) × (parentOf m a ≡ o) × Link m a as′ × Open x m (suc d) (some a) as′
 
--- the first one, where p stands behind all
+-- the first one, where p is behind all
 abbrev pub first : List Element → Element → Element
 first [] p = p
 first (a ∷ as′) p = a
+
+-- it is one of them
+pub first-in : (p : Element) (as′ : List Element) → In (first as′ p) (as′ ++ (p ∷ []))
+first-in p [] = List·Memᴰ·head refl
+first-in p (a ∷ as′) = List·Memᴰ·head refl
+
+-- and at their first depth
+pub first-deep : (x : Fixed) (m : Model) (p : Element) (as′ : List Element) (d : ℕ) (o : Option Element) → Open x m d o (as′ ++ (p ∷ [])) → depthOf x (first as′ p) ≡ d
+first-deep x m p [] d o h = h .1
+first-deep x m p (a ∷ as′) d o h = h .1
 
 module _ (m : Model) (a : Element) where
   link-first : (p : Element) (as′ : List Element) → Link m a (as′ ++ (p ∷ [])) → Last (listOf m a) (child (first as′ p))
@@ -104,7 +114,7 @@ module _ (x : Fixed) (m : Model) where
   open-take (suc n) d o [] h = tt
   open-take (suc n) d o (a ∷ as′) h = (h .0, h .1, h .2, link-take m a n as′ (h .3), open-take n (suc d) (some a) as′ (h .4))
 
-  -- each stands among the elements
+  -- each is one of the elements
   pub open-range : (d : ℕ) (o : Option Element) (as′ : List Element) → Open x m d o as′ → (c : Element) → In c as′ → c < count x
   open-range d o [] h c i = absurd (List·Memᴰ·not-nil i)
   open-range d o (a ∷ as′) h c i =
@@ -170,12 +180,12 @@ joins lower′ lower x′ x d e v s t = rw (s, t) (simp (append-nil, append-asso
 
 module _ {x : Fixed} {m : Model} {x′ : Fixed} {m′ : Model} {p : Element} {above : List Element} (g : Grown x m x′ m′ p) (b : Built x m above)
     (w : List Element) (o : Open x m 0 none w) where
-  -- what stands below none of the open elements
-  abbrev pub Away : Element → Type 0
-  Away c = (c < count x) × (In c w → ⊥)
+  -- an element that is not open
+  abbrev pub NotOpen : Element → Type 0
+  NotOpen c = (c < count x) × (In c w → ⊥)
 
-  away-child : (e c : Element) → Away e → In (child c) (listOf m e) → Away c
-  away-child e c a h =
+  not-open-child : (e c : Element) → NotOpen e → In (child c) (listOf m e) → NotOpen c
+  not-open-child e c a h =
       let own : parentOf m c ≡ some e = b .owns e c h in (
         b .kept .items e (child c) h,
         λ i.
@@ -184,23 +194,23 @@ module _ {x : Fixed} {m : Model} {x′ : Fixed} {m′ : Model} {p : Element} {ab
       )
 
   -- what is printed of it stays
-  pub away-lines : In p w → (n : ℕ) (e : Element) → Away e → elementLines n x′ m′ e ≡ elementLines n x m e
-  away-lines i = lines-kept g (b .kept .items) Away away-child (λ e a. (a .0, λ q. a .1 (rw q i)))
+  pub not-open-lines : In p w → (n : ℕ) (e : Element) → NotOpen e → elementLines n x′ m′ e ≡ elementLines n x m e
+  not-open-lines i = lines-kept g (b .kept .items) NotOpen not-open-child (λ e a. (a .0, λ q. a .1 (rw q i)))
 
   module _ (i : Item) (put : listOf m′ p ≡ listOf m p ++ (i ∷ [])) (deep : suc (depthOf x p) ≡ length w) where
     -- the item's lines
-    abbrev pub new : ℕ → List ℕ
-    new k = itemLines (elementLines k x′ m′) x′ (suc (depthOf x p)) (i ∷ [])
+    abbrev pub newLines : ℕ → List ℕ
+    newLines k = itemLines (elementLines k x′ m′) x′ (suc (depthOf x p)) (i ∷ [])
 
-    -- the children of p stand below no open element
-    own-away : In p w → (c : Element) → In (child c) (listOf m p) → Away c
-    own-away j c h =
+    -- the children of p are not open
+    own-not-open : In p w → (c : Element) → In (child c) (listOf m p) → NotOpen c
+    own-not-open j c h =
         (b .kept .items p (child c) h, λ k. omega (arith, open-deep x m 0 none w o c k .1, b .kept .fits p c h .depth, deep))
 
     -- nor do those before the next open element
-    front-away : (a n : Element) (front : List Item) → In n w → depthOf x n ≡ suc (depthOf x a) → listOf m a ≡ front ++ (child n ∷ []) → (c : Element)
-        → In (child c) front → Away c
-    front-away a n front j e is c h =
+    front-not-open : (a n : Element) (front : List Item) → In n w → depthOf x n ≡ suc (depthOf x a) → listOf m a ≡ front ++ (child n ∷ []) → (c : Element)
+        → In (child c) front → NotOpen c
+    front-not-open a n front j e is c h =
         let within : In (child c) (listOf m a) = rw is (Memᴰ·append-left (child n ∷ []) h) in (
           b .kept .items a (child c) within,
           λ k.
@@ -208,27 +218,27 @@ module _ {x : Fixed} {m : Model} {x′ : Fixed} {m′ : Model} {p : Element} {ab
               last-once front (subst (λ (l : List Item). Once (children l)) is (b .kept .once a)) (subst (λ (z : Element). In (child z) front) q h),
         )
 
-    front-fits : (a : Element) (front : List Item) (n : Item) → listOf m a ≡ front ++ (n ∷ []) → (j : Item) → In j front → ItemFits x j
+    front-fits : (a : Element) (front : List Item) (n : Item) → listOf m a ≡ front ++ (n ∷ []) → (j : Item) → In j front → ItemInRange x j
     front-fits a front n is j h = b .kept .items a j (rw is (Memᴰ·append-left (n ∷ []) h))
 
     -- what is printed from the first open element on has the item's lines at its end
     pub put-lines : (as′ : List Element) (d : ℕ) (q : Option Element) (k : ℕ) → Open x m d q (as′ ++ (p ∷ [])) → ((c : Element) → In c (as′ ++ (p ∷ [])) → In c w)
-        → elementLines (fuel as′ k) x′ m′ (first as′ p) ≡ elementLines (fuel as′ k) x m (first as′ p) ++ new k
+        → elementLines (fuel as′ k) x′ m′ (first as′ p) ≡ elementLines (fuel as′ k) x m (first as′ p) ++ newLines k
     unfolding elementLines
     put-lines [] d q k h within =
         let at : In p w = within p (List·Memᴰ·head refl) in
         let deeper : ℕ = suc (depthOf x p) in
         let kept : itemLines (elementLines k x′ m′) x′ deeper (listOf m p) ≡ itemLines (elementLines k x m) x deeper (listOf m p) =
-        items-same g (elementLines k x′ m′) (elementLines k x m) deeper (listOf m p) (b .kept .items p) (λ c j. away-lines at k c (own-away at c j)) in
+        items-same g (elementLines k x′ m′) (elementLines k x m) deeper (listOf m p) (b .kept .items p) (λ c j. not-open-lines at k c (own-not-open at c j)) in
         rw (g .line p (h .0), g .depth p (h .0), put)
         (ap (λ (r : List ℕ). elementLine x m p ++ r)
-        (items-append (elementLines k x′ m′) x′ deeper (listOf m p) (i ∷ []) ∙ ap (λ (r : List ℕ). r ++ new k) kept)
-        ∙ sym (append-assoc (elementLine x m p) (itemLines (elementLines k x m) x deeper (listOf m p)) (new k)))
+        (items-append (elementLines k x′ m′) x′ deeper (listOf m p) (i ∷ []) ∙ ap (λ (r : List ℕ). r ++ newLines k) kept)
+        ∙ sym (append-assoc (elementLine x m p) (itemLines (elementLines k x m) x deeper (listOf m p)) (newLines k)))
     put-lines (a ∷ as′) d q k h within =
         let n : Element = first as′ p in
         let last : Last (listOf m a) (child n) = link-first m a p as′ (h .3) in
         let at : In p w = within p (List·Memᴰ·tail (Memᴰ·append-right as′ (List·Memᴰ·head refl))) in
-        let next : In n w = within n (List·Memᴰ·tail (first-in as′)) in
+        let next : In n w = within n (List·Memᴰ·tail (first-in p as′)) in
         let deeper : ℕ = suc (depthOf x a) in
         let other : a ≡ p → ⊥ =
         λ e. omega (arith, ap (depthOf x) e, h .1, open-deep x m (suc d) (some a) (as′ ++ (p ∷ [])) (h .4) p (Memᴰ·append-right as′ (List·Memᴰ·head refl)) .0) in
@@ -236,23 +246,15 @@ module _ {x : Fixed} {m : Model} {x′ : Fixed} {m′ : Model} {p : Element} {ab
         let lower : Element → List ℕ = elementLines (fuel as′ k) x m in
         let kept : itemLines lower′ x′ deeper (last .front) ≡ itemLines lower x deeper (last .front) =
         items-same g lower′ lower deeper (last .front) (front-fits a (last .front) (child n) (last .is))
-        (λ c j. away-lines at (fuel as′ k) c (front-away a n (last .front) next (first-deep as′ (h .4) ∙ ap suc (sym (h .1))) (last .is) c j)) in
+        (λ c j. not-open-lines at (fuel as′ k) c (front-not-open a n (last .front) next (first-deep x m p as′ (suc d) (some a) (h .4) ∙ ap suc (sym (h .1))) (last .is) c j)) in
         rw (g .line a (h .0), g .depth a (h .0), g .list a (h .0) other, last .is)
         (ap (λ (r : List ℕ). elementLine x m a ++ r)
         (items-append lower′ x′ deeper (last .front) (child n ∷ [])
-        ∙ joins lower′ lower x′ x deeper n (new k) kept (put-lines as′ (suc d) (some a) k (h .4) (λ c j. within c (List·Memᴰ·tail j)))
-        ∙ ap (λ (r : List ℕ). r ++ new k) (sym (items-append lower x deeper (last .front) (child n ∷ []))))
-        ∙ sym (append-assoc (elementLine x m a) (itemLines lower x deeper (last .front ++ (child n ∷ []))) (new k)))
-      where
-        first-in : (l : List Element) → In (first l p) (l ++ (p ∷ []))
-        first-in [] = List·Memᴰ·head refl
-        first-in (c ∷ l) = List·Memᴰ·head refl
+        ∙ joins lower′ lower x′ x deeper n (newLines k) kept (put-lines as′ (suc d) (some a) k (h .4) (λ c j. within c (List·Memᴰ·tail j)))
+        ∙ ap (λ (r : List ℕ). r ++ newLines k) (sym (items-append lower x deeper (last .front) (child n ∷ []))))
+        ∙ sym (append-assoc (elementLine x m a) (itemLines lower x deeper (last .front ++ (child n ∷ []))) (newLines k)))
 
-        first-deep : (l : List Element) → Open x m (suc d) (some a) (l ++ (p ∷ [])) → depthOf x (first l p) ≡ suc d
-        first-deep [] o = o .1
-        first-deep (c ∷ l) o = o .1
-
-  -- with the item the same elements are open, and behind p those that stand last there
+  -- with the item the same elements are open, and behind p those that are last there
   pub open-step : (as′ tail : List Element) (d : ℕ) (q : Option Element) → Open x m d q (as′ ++ (p ∷ [])) → Link m′ p tail
       → Open x′ m′ (suc (depthOf x p)) (some p) tail → Open x′ m′ d q (as′ ++ (p ∷ tail))
   open-step [] tail d q h l t = (

@@ -9,9 +9,9 @@ use lib.Dec.{ltb}
 use lib.ListN.{length}
 use Rattle.tables.specs.Lists.{sum}
 use Rattle.tables.specs.Records.{State}
+use Rattle.tables.proofs.Laws.Cases.{bool-split}
 use Rattle.merge_rules.specs.Book.{Book, strike}
 use Rattle.merge_rules.specs.Log.{isMark, rollbackMerge}
-use Rattle.merge_rules.proofs.Laws.Cases.{bool-split}
 use Rattle.merge_rules.proofs.Laws.Marks.{mark-within, mark-steps, mark-end}
 use Rattle.merge_rules.proofs.Laws.Steps.{Steps, stay, IsMerge}
 use Rattle.merge_rules.proofs.Laws.Undo.{steps-append, rollback-steps}
@@ -37,7 +37,7 @@ pub data Stack (Inv : State → Type 0) (s₀ : State) (bk₀ : Book) : State �
   push : {s t : State} {bk : Book} {n : ℕ} → Stack Inv s₀ bk₀ s bk → IsMerge s t n → Inv t → Stack Inv s₀ bk₀ t (n ∷ bk)
 
 -- a state between two merges of the stack, with its book: a rollback to the mark ends there and leaves that book
-pub record Border (Inv : State → Type 0) (s₀ : State) (bk₀ : Book) (mark : ℕ) (s : State) (bk : Book) : Type 0 where
+pub record Boundary (Inv : State → Type 0) (s₀ : State) (bk₀ : Book) (mark : ℕ) (s : State) (bk : Book) : Type 0 where
   pub state : State
   pub book : Book
   pub stack : Stack Inv s₀ bk₀ state book
@@ -67,7 +67,7 @@ module _ {Inv : State → Type 0} {s₀ : State} {bk₀ : Book} where
   length-mark (base i h) k = k
   length-mark {s} (push st m i) k = mark-end (s .log) (m .last)
 
-  -- what stands in the book above the base is the length that the log has above it
+  -- the sums in the book above the base are the length that the log has above it
   pub stack-above : {s : State} {bk : Book} → Stack Inv s₀ bk₀ s bk
       → (above : Book) × (bk ≡ above ++ bk₀) × (length (s .log) ≡ sum above + length (s₀ .log))
   unfolding sum
@@ -78,14 +78,14 @@ module _ {Inv : State → Type 0} {s₀ : State} {bk₀ : Book} where
 
   -- ---- marks are borders
 
-  border-top : {s : State} {bk : Book} (mark : ℕ) → Stack Inv s₀ bk₀ s bk → length (s .log) ≡ mark → Border Inv s₀ bk₀ mark s bk
-  border-top {s} {bk} mark st at =
+  boundary-top : {s : State} {bk : Book} (mark : ℕ) → Stack Inv s₀ bk₀ s bk → length (s .log) ≡ mark → Boundary Inv s₀ bk₀ mark s bk
+  boundary-top {s} {bk} mark st at =
       record { state = s; book = bk; stack = st; steps = stay; at = at; strikes = strike-none mark bk (omega (arith, book-sum st)) }
 
-  border-lower : {s t : State} {bk : Book} {n mark : ℕ} → Stack Inv s₀ bk₀ s bk → IsMerge s t n → mark < length (t .log) → Border Inv s₀ bk₀ mark s bk
-      → Border Inv s₀ bk₀ mark t (n ∷ bk)
+  boundary-lower : {s t : State} {bk : Book} {n mark : ℕ} → Stack Inv s₀ bk₀ s bk → IsMerge s t n → mark < length (t .log) → Boundary Inv s₀ bk₀ mark s bk
+      → Boundary Inv s₀ bk₀ mark t (n ∷ bk)
   unfolding sum
-  border-lower {s} {t} {bk} {n} {mark} st m below b =
+  boundary-lower {s} {t} {bk} {n} {mark} st m below b =
       record {
         state = b .state;
         book = b .book;
@@ -95,11 +95,11 @@ module _ {Inv : State → Type 0} {s₀ : State} {bk₀ : Book} where
         strikes = strike-last mark n bk (omega (arith, book-sum st, m .size)) ∙ b .strikes;
       }
 
-  -- a mark not below the base that rollback accepts is a border of merges
-  pub border : {s : State} {bk : Book} → Stack Inv s₀ bk₀ s bk → (mark : ℕ) → length (s₀ .log) ≤ mark → isMark mark (s .log) ≡ true
-      → Border Inv s₀ bk₀ mark s bk
-  border (base i h) mark low ok = border-top mark (base i h) (omega (arith, mark-within mark (s₀ .log) ok))
-  border (push {s} {t} {bk} {n} st m i) mark low ok =
+  -- a mark not below the base that rollback accepts is a boundary of merges
+  pub boundary : {s : State} {bk : Book} → Stack Inv s₀ bk₀ s bk → (mark : ℕ) → length (s₀ .log) ≤ mark → isMark mark (s .log) ≡ true
+      → Boundary Inv s₀ bk₀ mark s bk
+  boundary (base i h) mark low ok = boundary-top mark (base i h) (omega (arith, mark-within mark (s₀ .log) ok))
+  boundary (push {s} {t} {bk} {n} st m i) mark low ok =
       bool-split (ltb mark (length (t .log)))
       (λ p.
       let below : mark < length (t .log) = ltb-true _ _ p in
@@ -107,9 +107,9 @@ module _ {Inv : State → Type 0} {s₀ : State} {bk₀ : Book} where
       (λ q. absurd (true≢false (sym ok ∙ m .inner mark (ltb-true _ _ q) below)))
       (λ q.
       let within : mark ≤ length (s .log) = ltb-false _ _ q in
-      border-lower st m below (border st mark low (sym (mark-steps (m .steps) mark within) ∙ ok))))
-      (λ p. border-top mark (push st m i) (omega (arith, mark-within mark (t .log) ok, ltb-false mark (length (t .log)) p)))
+      boundary-lower st m below (boundary st mark low (sym (mark-steps (m .steps) mark within) ∙ ok))))
+      (λ p. boundary-top mark (push st m i) (omega (arith, mark-within mark (t .log) ok, ltb-false mark (length (t .log)) p)))
 
-  -- rollback returns to the border's state
-  pub border-state : {mark : ℕ} {s : State} {bk : Book} (b : Border Inv s₀ bk₀ mark s bk) → rollbackMerge mark s ≡ b .state
-  border-state {s = s} b = ap (λ k. rollbackMerge k s) (sym (b .at)) ∙ rollback-steps (b .steps)
+  -- rollback returns to the boundary's state
+  pub boundary-state : {mark : ℕ} {s : State} {bk : Book} (b : Boundary Inv s₀ bk₀ mark s bk) → rollbackMerge mark s ≡ b .state
+  boundary-state {s = s} b = ap (λ k. rollbackMerge k s) (sym (b .at)) ∙ rollback-steps (b .steps)

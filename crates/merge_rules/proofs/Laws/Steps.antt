@@ -10,7 +10,7 @@ use Rattle.merge_rules.specs.Import.{adopt}
 use Rattle.merge_rules.specs.Log.{isMark, endsMerge}
 use Rattle.merge_rules.specs.Sound.{In}
 
--- the entry that a change logs, and the model that it leads to
+-- the entry that a change logs, and the model behind it
 pub data Change (m : Model) : Entry → Model → Type 0 where
   restricts : (e : Element) (files : FileSet) → Change m (restriction e (setOf m e)) (putSet m e files)
   extends : (e : Element) (f : FileNumber) → holds (setOf m e) f ≡ false → Change m (extension e f) (putSet m e (withFile (setOf m e) f))

@@ -13,26 +13,26 @@ use Rattle.tables.specs.Records.{Element, Item, child, text, Model, Entry, Log,
 use Rattle.tables.proofs.Laws.FileSets.{withoutFile-withFile}
 use Rattle.tables.proofs.Laws.Model.{putSet-back}
 use Rattle.merge_rules.specs.Import.{adopt}
-use Rattle.merge_rules.specs.Log.{placeOf, takeOut, undo, undoTo, rollbackMerge}
+use Rattle.merge_rules.specs.Log.{firstPlaceOf, takeOut, undo, undoTo, rollbackMerge}
 use Rattle.merge_rules.specs.Sound.{In}
-use Rattle.merge_rules.proofs.Laws.Lists.{set-back}
+use Rattle.merge_rules.proofs.Laws.Lists.{set-undone}
 use Rattle.merge_rules.proofs.Laws.Steps.{Change, restricts, extends, imports, Steps, stay, step}
 
 -- ---- a fresh element's place
 
 -- the list without the element's first place, if any
 without : Element → List Item → List Item
-without e l = elim (placeOf e l) [ none ↦ l | some i ↦ removeAt l i ]
+without e l = elim (firstPlaceOf e l) [ none ↦ l | some i ↦ removeAt l i ]
 
 without-first : (e : Element) (l : List Item) → without e (child e ∷ l) ≡ l
-unfolding without placeOf removeAt
-without-first e l = rw (eq-eqb e e refl, placeOf, without)
+unfolding without firstPlaceOf removeAt
+without-first e l = rw (eq-eqb e e refl, firstPlaceOf, without)
 
 -- an item that is not the element stays
-without-later : (e : Element) (i : Item) (l : List Item) → placeOf e (i ∷ l) ≡ elim (placeOf e l) [ none ↦ none | some n ↦ some (suc n) ]
+without-later : (e : Element) (i : Item) (l : List Item) → firstPlaceOf e (i ∷ l) ≡ elim (firstPlaceOf e l) [ none ↦ none | some n ↦ some (suc n) ]
     → without e (i ∷ l) ≡ i ∷ without e l
 unfolding without removeAt
-without-later e i l h = rw (h, without) (go (placeOf e l))
+without-later e i l h = rw (h, without) (go (firstPlaceOf e l))
   where
     go : (o : Option ℕ)
         → _≡_ {A = List Item}
@@ -43,18 +43,18 @@ without-later e i l h = rw (h, without) (go (placeOf e l))
 
 -- a fresh element put in and taken out gives the list back
 without-inserted : (e : Element) (l : List Item) (at : ℕ) → (In (child e) l → ⊥) → without e (insertAt l at (child e)) ≡ l
-unfolding insertAt placeOf
+unfolding insertAt firstPlaceOf
 without-inserted e l zero fresh = without-first e l
 without-inserted e [] (suc at) fresh = without-first e []
 without-inserted e (child c ∷ l) (suc at) fresh =
-    without-later e (child c) (insertAt l at (child e)) (rw (ne-eqb c e (λ q. fresh (List·Memᴰ·head (ap child (sym q)))), placeOf))
+    without-later e (child c) (insertAt l at (child e)) (rw (ne-eqb c e (λ q. fresh (List·Memᴰ·head (ap child (sym q)))), firstPlaceOf))
     ∙ ap (λ r. child c ∷ r) (without-inserted e l at (λ h. fresh (List·Memᴰ·tail h)))
 without-inserted e (text t ∷ l) (suc at) fresh =
     without-later e (text t) (insertAt l at (child e)) refl ∙ ap (λ r. text t ∷ r) (without-inserted e l at (λ h. fresh (List·Memᴰ·tail h)))
 
 takeOut-list : (e p : Element) (m : Model) → takeOut e p m ≡ putList m p (without e (listOf m p))
 unfolding takeOut without putList removeItem
-takeOut-list e p m = go (placeOf e (listOf m p))
+takeOut-list e p m = go (firstPlaceOf e (listOf m p))
   where
     go : (o : Option ℕ)
         → _≡_ {A = Model} (elim o [ none ↦ m | some i ↦ removeItem m p i ])
@@ -72,16 +72,16 @@ undo-change {m} (extends e f absent) =
     λ i.
     record {
       parents = m .parents;
-      sets = set-back (m .sets) e 0 _ (λ s. withoutFile s f) (withoutFile-withFile (setOf m e) f absent) i;
+      sets = set-undone (m .sets) e 0 _ (λ s. withoutFile s f) (withoutFile-withFile (setOf m e) f absent) i;
       lists = m .lists;
     }
 undo-change {m} (imports f p e at fresh) =
     rw (takeOut-list e p (adopt f p e at m))
     (λ i.
     record {
-      parents = set-back (m .parents) e none (some p) (λ _. parentOf m e) refl i;
-      sets = set-back (m .sets) e 0 (withFile (setOf m e) f) (λ _. setOf m e) refl i;
-      lists = set-back (m .lists) p [] _ (without e) (without-inserted e (listOf m p) at fresh) i;
+      parents = set-undone (m .parents) e none (some p) (λ _. parentOf m e) refl i;
+      sets = set-undone (m .sets) e 0 (withFile (setOf m e) f) (λ _. setOf m e) refl i;
+      lists = set-undone (m .lists) p [] _ (without e) (without-inserted e (listOf m p) at fresh) i;
     })
 
 -- ---- paths of changes

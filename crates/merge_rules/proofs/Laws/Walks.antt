@@ -10,10 +10,11 @@ use lib.Dec.{eqb, ltb}
 use Rattle.tables.specs.Lists.{anyOf}
 use Rattle.tables.specs.Paths.{pathOrder}
 use Rattle.tables.specs.Records.{Element, TypeNumber, Version, Model, Fixed, nameOf, typeOf}
+use Rattle.tables.proofs.Laws.Cases.{bool-case}
 use Rattle.deck.specs.Schema.{splittableIn}
 use Rattle.merge_rules.specs.Pairing.{childrenOf, elementText, identifiable, itemName, definition, sameKey, sameTexts, Action, mergeEqual, mergeUnequal, aOnly, bOnly, unmergeableParent, sibling, calcIdentifiablesMerge, calcElementMerge, pathOf, actionByPath, actionOf, Pair, NewItem, Plan, Walked, planned, unmergeableIn, restrictFirst, importFirst, pairFirst, importUnpaired, leftOverA, leftOverB, walk, walkLevel, uses, firstUsedTwice}
 use Rattle.merge_rules.specs.Sound.{In, Once, once-nil, once-cons}
-use Rattle.merge_rules.proofs.Laws.Cases.{bool-case, option-case}
+use Rattle.merge_rules.proofs.Laws.Cases.{option-case}
 use Rattle.merge_rules.proofs.Laws.Lists.{each-nil, each-cons, Within, within-cons, within-more, within-both, within-head, within-tail, within-append, firstOf-some, firstOf-none, once-head, once-tail, once-of, occurrences-append, occurrences-map}
 
 -- the elements that a list imports, and those that pairs name

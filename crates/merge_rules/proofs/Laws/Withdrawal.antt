@@ -9,15 +9,16 @@ use lib.ListN.{length}
 use Rattle.tables.specs.FileSets.{waitingTree}
 use Rattle.tables.specs.Lists.{sum}
 use Rattle.tables.specs.Records.{FileNumber, State, Fixed}
+use Rattle.tables.proofs.Laws.Cases.{bool-case}
 use Rattle.merge_rules.specs.Book.{Call, callMerge, callRollback, callRange, Answer, ofMerge, ofRollback, ofRange, call, Book, sumOf, enterMerge, enterRollback, enter}
 use Rattle.merge_rules.specs.Calls.{Counts, merged, mergeRefused, Merged, mergedFrom, mergeTree, merge, takenOff, rollbackRefused, RolledBack, rollback}
 use Rattle.merge_rules.specs.Log.{isMark, rollbackMerge}
 use Rattle.merge_rules.specs.Refusals.{Refusal, Outcome, done, conflict, refused}
 use Rattle.merge_rules.specs.Withdrawal.{Answered, stateAfter, history, bookAfter, rollbackBelow, goesBelow, markOf, Withdrawn, WithdrawnFrom}
-use Rattle.merge_rules.proofs.Laws.Cases.{bool-case, option-case}
+use Rattle.merge_rules.proofs.Laws.Cases.{option-case}
 use Rattle.merge_rules.proofs.Laws.Lists.{anyOf-cons, anyOf-never}
 use Rattle.merge_rules.proofs.Laws.Marks.{mark-steps}
-use Rattle.merge_rules.proofs.Laws.Stack.{Stack, base, push, top, stack-steps, book-sum, length-mark, stack-above, Border, border, border-state}
+use Rattle.merge_rules.proofs.Laws.Stack.{Stack, base, push, top, stack-steps, book-sum, length-mark, stack-above, Boundary, boundary, boundary-state}
 use Rattle.merge_rules.proofs.Laws.Steps.{IsMerge}
 use Rattle.merge_rules.proofs.Laws.Undo.{rollback-steps}
 
@@ -65,16 +66,16 @@ goesBelow-zero ds = anyOf-never _ (λ d. below-zero (d .asked) (d .answer)) ds
 -- from a stack of merges over a mark, a rollback to the mark
 withdrawn : {Inv : State → Type 0} {s t : State} {bk bk′ : Book} → Stack Inv s bk t bk′ → isMark (length (s .log)) (s .log) ≡ true → Withdrawn s t bk bk′
 withdrawn {s = s} {t = t} st h =
-    let (standing, book, size) = stack-above st in
+    let (sumsSince, book, size) = stack-above st in
     let accepted = rollback-accepts (markOf s) t (mark-steps (stack-steps st) (markOf s) (omega arith) ∙ h) in
     record {
-      standing = standing;
+      sumsSince = sumsSince;
       book = book;
       accepted = rw accepted (ap takenOff (omega arith));
       state = rw accepted (rollback-steps (stack-steps st));
     }
 
--- ---- calls lead from a stack to a stack
+-- ---- calls on a stack leave a stack
 
 stack-rollback : {Inv : State → Type 0} {s₀ s : State} {bk₀ bk : Book} (mark : ℕ) → Stack Inv s₀ bk₀ s bk
     → rollbackBelow (markOf s₀) (callRollback mark) (ofRollback (rollback mark s .answer)) ≡ false
@@ -86,8 +87,8 @@ stack-rollback {Inv} {s₀} {s} {bk₀} {bk} mark st =
     → Stack Inv s₀ bk₀ (r .state) (enterRollback mark (r .answer) bk))
     (isMark mark (s .log))
     (λ ok high.
-    let b : Border Inv s₀ bk₀ mark s bk = border st mark (ltb-false _ _ high) ok in
-    rw (b .strikes, border-state b) (b .stack))
+    let b : Boundary Inv s₀ bk₀ mark s bk = boundary st mark (ltb-false _ _ high) ok in
+    rw (b .strikes, boundary-state b) (b .stack))
     (λ _ _. st)
 
 -- ---- lists of calls, over what an accepted merge does
@@ -111,7 +112,7 @@ module _ (x : Fixed) (Inv : State → Type 0)
   stack-call (callRollback mark) st h = stack-rollback mark st h
   stack-call (callRange e n v) st h = st
 
-  -- calls with no accepted rollback below the base lead to merges on top of it, with the book's sums
+  -- calls with no accepted rollback below the base leave merges on top of it, with the book's sums
   stack-calls : {s₀ s : State} {bk₀ bk : Book} (cs : List Call) → Stack Inv s₀ bk₀ s bk → goesBelow (markOf s₀) (history x cs s) ≡ false
       → Stack Inv s₀ bk₀ (stateAfter x cs s) (bookAfter (history x cs s) bk)
   unfolding stateAfter history bookAfter goesBelow

@@ -1,12 +1,12 @@
 -- Laws of one line: the parts that are written in turn are the line of the rules. Assumes nothing.
 use mathlib.Core.List.{List, [], _∷_, _++_}
 use mathlib.Core.Path.{_≡_, refl, sym, ap, _∙_}
-use Prim.Native.Nat.{ℕ, suc, _+_, _*_, _-_, _/_, _%_, _≤_, _<_}
+use Prim.Native.Nat.{ℕ, suc, _+_, _-_, _/_, _%_, _≤_, _<_}
 use native.Mathlib.Omega.{arith}
 use borrow.Author.Tests.{eq-eqb, ne-eqb}
 use lib.ListN.{length, getD, take, drop}
 use Rattle.tables.specs.Bytes.{bytes}
-use Rattle.tables.specs.Records.{Place, Text, enumNumber, string, wholeNumber, float, Model, Fixed, nameOf, depthOf, setOf}
+use Rattle.tables.specs.Records.{Text, enumNumber, string, wholeNumber, float, Model, Fixed, nameOf, depthOf, setOf}
 use Rattle.tables.specs.Texts.{bytesAt, textKind, textValue, textFrom}
 use Rattle.tables.specs.ElementsTable.{elementsOf, TextFits}
 use Rattle.table_test.specs.ElementsTest.{TextIn}
@@ -14,6 +14,7 @@ use Rattle.merge_rules.specs.Program.{digitsBefore, decimalOf, hexadecimalOf, l
 use Rattle.tables.proofs.Laws.ElementsTable.{text-back}
 use Rattle.tables.proofs.Laws.Cells.{each-getD}
 use Rattle.printing.specs.TreeLines.{valueEnd, Readable}
+use Rattle.tables.specs.Limits.{stringLimit}
 
 -- ---- the last two fields of a C line
 
@@ -31,7 +32,7 @@ module _ (x : Fixed) (k v : ℕ) where
   value-float n₀ n₁ n₂ = rw (textFrom, ne-eqb k 0 n₀, ne-eqb k 1 n₁, ne-eqb k 2 n₂)
 
   pub value-string : (deck : List ℕ) → x .deck ≡ deck → k ≡ 1
-      → (115 ∷ 44 ∷ []) ++ (bytesAt deck (record { start = v / 65536; size = v % 65536 }) ++ (10 ∷ [])) ≡ valueEnd x (textFrom k v)
+      → (115 ∷ 44 ∷ []) ++ (bytesAt deck (record { start = v / stringLimit; size = v % stringLimit }) ++ (10 ∷ [])) ≡ valueEnd x (textFrom k v)
   unfolding textFrom kindOfText valueOfText bytes
   value-string deck d e = rw (textFrom, ne-eqb k 0 (λ z. omega arith), eq-eqb k 1 e, d)
 
@@ -64,15 +65,15 @@ module _ (t : Text) {k v : ℕ} (hk : k ≡ textKind t) (hv : v ≡ textValue t)
   pub text-line : (x : Fixed) (d : ℕ) → textLine x d (textFrom k v) ≡ textLine x d t
   text-line x d = ap (textLine x d) ((λ i. textFrom (hk i) (hv i)) ∙ text-back t fits)
 
-  pub text-within : (size : ℕ) → TextIn size t → k ≡ 1 → v / 65536 + v % 65536 ≤ size
+  pub text-within : (size : ℕ) → TextIn size t → k ≡ 1 → v / stringLimit + v % stringLimit ≤ size
   unfolding textKind textValue
   text-within size h e = by-text t fits h hv (sym hk ∙ e)
     where
-      by-text : (u : Text) → TextFits u → TextIn size u → v ≡ textValue u → textKind u ≡ 1 → v / 65536 + v % 65536 ≤ size
+      by-text : (u : Text) → TextFits u → TextIn size u → v ≡ textValue u → textKind u ≡ 1 → v / stringLimit + v % stringLimit ≤ size
       by-text (enumNumber n) f h g e = absurd (omega arith)
       by-text (string p) f h g e =
-          let a : v / 65536 ≡ p .start = omega arith in
-          let b : v % 65536 ≡ p .size = omega arith in
+          let a : v / stringLimit ≡ p .start = omega arith in
+          let b : v % stringLimit ≡ p .size = omega arith in
           omega arith
       by-text (wholeNumber n) f h g e = absurd (omega arith)
       by-text (float n) f h g e = absurd (omega arith)

@@ -1,31 +1,26 @@
--- Tables that pass refusal 0 are read without a test of their own; what a call prints. Assumes nothing.
-use mathlib.Core.Bool.{Bool, true, false, not, _&&_, and-eq-true-iff}
-use mathlib.Core.List.{List, [], _∷_}
-use mathlib.Core.Option.{some, none}
-use mathlib.Core.Path.{_≡_, refl, sym, ap, _∙_, subst}
+-- Tables that pass refusal 0 are read without a test of their own. Assumes nothing.
+use mathlib.Core.Bool.{true, false, _&&_, and-eq-true-iff}
+use mathlib.Core.List.{List}
+use mathlib.Core.Path.{_≡_, refl, sym, ap, _∙_}
 use Prim.Native.Nat.{ℕ, zero, suc, _+_, _≤_, _<_}
 use native.Mathlib.Omega.{arith}
 use borrow.Author.Tests.{ltb-true}
-use lib.ListN.{length, getD, take}
+use lib.ListN.{length, getD}
 use Rattle.tables.specs.Limits.{depthLimit}
-use Rattle.tables.specs.Records.{enumNumber, child, text, listOf}
+use Rattle.tables.specs.Records.{enumNumber, child, listOf}
 use Rattle.tables.specs.ElementsTable.{elementsOf, noTree}
-use Rattle.tables.specs.ModelTable.{flat, startOf, countOf, modelOf, GoodModel}
+use Rattle.tables.specs.ModelTable.{flat, startOf, countOf, modelOf}
 use Rattle.table_test.specs.ElementsTest.{TextIn, TreeIn}
 use Rattle.table_test.specs.ModelTest.{itemInRange, TestedModel}
 use Rattle.table_test.specs.TablesTest.{tablesPass, TestedTables}
-use Rattle.state_test.specs.StateTest.{schemaStands, rootSetStands, filesStand, rootsStand, listsTyped, stateStands, lentTablesPass, fixedIn, stateIn}
+use Rattle.state_test.specs.StateTest.{schemaValid, filesDeclared, rootsValid, listsTyped, stateValid, lentTablesPass, fixedIn, stateIn}
 use Rattle.tables.proofs.Laws.Cells.{each-getD}
 use Rattle.tables.proofs.Laws.Lists.{getD-flat}
 use Rattle.tables.proofs.Laws.ModelTable.{start-room, total-flat, listed-below}
-use Rattle.table_test.proofs.Laws.RowsTest.{all-at}
+use Rattle.tables.proofs.Laws.Scans.{all-at}
 use Rattle.table_test.proofs.Laws.TablesTest.{tested-tables}
 use Rattle.state_test.proofs.Laws.Files.{no-root-set, files-stop-1}
-use Rattle.printing.specs.declared.print.Printed.{Printed}
-use Rattle.printing.specs.declared.print.Printed.the-variants.{Bytes, Refused}
-use Rattle.printing.specs.Buffers.{Appends}
-use Rattle.merge_rules.specs.DeckLines.{treesLines}
-use Rattle.printing.specs.TreeLines.{Readable, printedIs, countIs, printsTrees, Prints}
+use Rattle.printing.specs.TreeLines.{Readable}
 
 -- every item of a list is in the range of what it names
 item-in-range : (texts : ℕ) (xs : List ℕ) (e i : ℕ) → TestedModel texts xs → i < length (listOf (modelOf xs) e)
@@ -61,18 +56,18 @@ module _ (deck schema es m log : List ℕ) where
     unfolding lentTablesPass
     passed-tables =
         tested-tables (length deck) schema es m log
-        (and-eq-true-iff (tablesPass (length deck) schema es m log) (stateStands (fixedIn deck schema es) (stateIn m log)) .0 p .0)
+        (and-eq-true-iff (tablesPass (length deck) schema es m log) (stateValid (fixedIn deck schema es) (stateIn m log)) .0 p .0)
 
-    files-pass : filesStand (fixedIn deck schema es) (stateIn m log) ≡ true
-    unfolding lentTablesPass stateStands
+    files-pass : filesDeclared (fixedIn deck schema es) (stateIn m log) ≡ true
+    unfolding lentTablesPass stateValid
     files-pass =
         let x = fixedIn deck schema es in
         let s = stateIn m log in
-        let a = schemaStands (x .schema) in
-        let b = filesStand x s in
-        let c = rootsStand x in
+        let a = schemaValid (x .schema) in
+        let b = filesDeclared x s in
+        let c = rootsValid x in
         let d = listsTyped x 0 (s .model .lists) in
-        let all = and-eq-true-iff (tablesPass (length deck) schema es m log) (stateStands x s) .0 p .1 in
+        let all = and-eq-true-iff (tablesPass (length deck) schema es m log) (stateValid x s) .0 p .1 in
         let three = and-eq-true-iff (a && b && c) d .0 all .0 in
         and-eq-true-iff a b .0 (and-eq-true-iff (a && b) c .0 three .0) .1
 
@@ -84,23 +79,9 @@ module _ (deck schema es m log : List ℕ) where
         by-count (suc n) e = omega arith
         by-count zero e =
             let sets = passed-tables .modelTested .good .sized .sets in
-            let f : false ≡ filesStand (fixedIn deck schema es) (stateIn m log) =
+            let f : false ≡ filesDeclared (fixedIn deck schema es) (stateIn m log) =
             files-stop-1 (fixedIn deck schema es) (stateIn m log) (sym (no-root-set (modelOf m) (omega arith)))
             in
             let z : false ≡ true = f ∙ files-pass in
             let o : _≡_ {A = ℕ} 0 1 = cc in
             absurd (omega arith)
-
-    pub prints-bytes : {xs ys : List ℕ} {n : ℕ} → Appends xs ys 0 n (treesLines (fixedIn deck schema es) (modelOf m))
-        → Prints xs ys (Bytes n) deck schema es m log
-    unfolding printedIs countIs printsTrees
-    prints-bytes {xs} {ys} {n} a = record { is = rw (printsTrees, p) (ap some (a .is)); within = a .within }
-
-  pub prints-none : (xs ys : List ℕ) → lentTablesPass deck schema es m log ≡ false → Prints xs ys Refused deck schema es m log
-  unfolding printedIs countIs printsTrees
-  prints-none xs ys p = record { is = rw (printsTrees, p); within = omega arith }
-
--- what a caller lends on of the buffer
-pub printed-within : {xs ys deck schema es m log : List ℕ} {r : Printed} {n : ℕ} → Prints xs ys r deck schema es m log → r ≡ Bytes n → n ≤ length ys
-unfolding countIs
-printed-within {xs} {ys} p e = subst (λ (q : Printed). countIs q ≤ length ys) e (p .within)

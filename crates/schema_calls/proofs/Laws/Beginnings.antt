@@ -20,30 +20,30 @@ abbrev pub three : ℕ → ℕ → ℕ → SchemaPath
 three a b c = front (a ∷ b ∷ c ∷ 0 ∷ [])
 
 module _ (h : SchemaPath → Bool) where
-  abbrev pub every : ℕ → ℕ → ℕ → ℕ → Bool
-  every a b c d = allOf h (properBeginnings (front (a ∷ b ∷ c ∷ d ∷ [])))
+  abbrev pub everyBeginning : ℕ → ℕ → ℕ → ℕ → Bool
+  everyBeginning a b c d = allOf h (properBeginnings (front (a ∷ b ∷ c ∷ d ∷ [])))
 
   -- no part, or one
-  pub every-none : (a b c d : ℕ) → a ≡ 0 → true ≡ every a b c d
+  pub every-none : (a b c d : ℕ) → a ≡ 0 → true ≡ everyBeginning a b c d
   unfolding allOf properBeginnings front
   every-none zero b c d e = refl
   every-none (suc a) b c d e = absurd (omega arith)
 
-  pub every-one : (a b c d : ℕ) → b ≡ 0 → true ≡ every a b c d
+  pub every-one : (a b c d : ℕ) → b ≡ 0 → true ≡ everyBeginning a b c d
   unfolding allOf properBeginnings front
   every-one zero b c d e = refl
   every-one (suc a) zero c d e = refl
   every-one (suc a) (suc b) c d e = absurd (omega arith)
 
   -- the first part fails
-  pub fails-one : (a b c d : ℕ) → (a ≡ 0 → ⊥) → (b ≡ 0 → ⊥) → h (one a) ≡ false → false ≡ every a b c d
+  pub fails-one : (a b c d : ℕ) → (a ≡ 0 → ⊥) → (b ≡ 0 → ⊥) → h (one a) ≡ false → false ≡ everyBeginning a b c d
   unfolding allOf properBeginnings front
   fails-one zero b c d na nb e = absurd (na refl)
   fails-one (suc a) zero c d na nb e = absurd (nb refl)
   fails-one (suc a) (suc b) c d na nb e = rw (allOf, e)
 
   -- two parts, and the first one stands
-  pub every-two : (a b c d : ℕ) → (a ≡ 0 → ⊥) → (b ≡ 0 → ⊥) → h (one a) ≡ true → c ≡ 0 → true ≡ every a b c d
+  pub every-two : (a b c d : ℕ) → (a ≡ 0 → ⊥) → (b ≡ 0 → ⊥) → h (one a) ≡ true → c ≡ 0 → true ≡ everyBeginning a b c d
   unfolding allOf properBeginnings front
   every-two zero b c d na nb e z = absurd (na refl)
   every-two (suc a) zero c d na nb e z = absurd (nb refl)
@@ -51,7 +51,7 @@ module _ (h : SchemaPath → Bool) where
   every-two (suc a) (suc b) (suc c) d na nb e z = absurd (omega arith)
 
   -- the first two parts fail
-  pub fails-two : (a b c d : ℕ) → (a ≡ 0 → ⊥) → (b ≡ 0 → ⊥) → h (one a) ≡ true → (c ≡ 0 → ⊥) → h (two a b) ≡ false → false ≡ every a b c d
+  pub fails-two : (a b c d : ℕ) → (a ≡ 0 → ⊥) → (b ≡ 0 → ⊥) → h (one a) ≡ true → (c ≡ 0 → ⊥) → h (two a b) ≡ false → false ≡ everyBeginning a b c d
   unfolding allOf properBeginnings front
   fails-two zero b c d na nb e nc f = absurd (na refl)
   fails-two (suc a) zero c d na nb e nc f = absurd (nb refl)
@@ -59,7 +59,7 @@ module _ (h : SchemaPath → Bool) where
   fails-two (suc a) (suc b) (suc c) d na nb e nc f = rw (allOf, e, allOf, f)
 
   -- three parts, and the first two stand
-  pub every-three : (a b c d : ℕ) → (a ≡ 0 → ⊥) → (b ≡ 0 → ⊥) → h (one a) ≡ true → (c ≡ 0 → ⊥) → h (two a b) ≡ true → d ≡ 0 → true ≡ every a b c d
+  pub every-three : (a b c d : ℕ) → (a ≡ 0 → ⊥) → (b ≡ 0 → ⊥) → h (one a) ≡ true → (c ≡ 0 → ⊥) → h (two a b) ≡ true → d ≡ 0 → true ≡ everyBeginning a b c d
   unfolding allOf properBeginnings front
   every-three zero b c d na nb e nc f z = absurd (na refl)
   every-three (suc a) zero c d na nb e nc f z = absurd (nb refl)
@@ -69,7 +69,7 @@ module _ (h : SchemaPath → Bool) where
 
   -- four parts: as the first three
   pub every-four : (a b c d : ℕ) → (a ≡ 0 → ⊥) → (b ≡ 0 → ⊥) → h (one a) ≡ true → (c ≡ 0 → ⊥) → h (two a b) ≡ true → (d ≡ 0 → ⊥)
-      → {r : Bool} → r ≡ h (three a b c) → r ≡ every a b c d
+      → {r : Bool} → r ≡ h (three a b c) → r ≡ everyBeginning a b c d
   unfolding allOf properBeginnings front
   every-four zero b c d na nb e nc f nd k = absurd (na refl)
   every-four (suc a) zero c d na nb e nc f nd k = absurd (nb refl)

@@ -6,18 +6,18 @@ use mathlib.Core.Path.{_≡_, sym, ap, _∙_}
 use Prim.Native.Nat.{ℕ, suc, _+_, _-_, _≤_, _<_}
 use native.Mathlib.Nat.{min-eq-left, min-eq-right}
 use native.Mathlib.Omega.{arith}
-use lib.ListN.{length, getD, take, drop}
+use lib.ListN.{length, getD, drop}
 use lib.Seq.{drop-cons, drop-length}
-use Rattle.tables.specs.FileSets.{holds, withFile}
+use Rattle.tables.specs.FileSets.{noSet, holds, withFile}
 use Rattle.tables.specs.Lists.{firstOf}
 use Rattle.tables.specs.Records.{File, Schema}
 use Rattle.tables.specs.SchemaTable.{noFile}
 use Rattle.deck.specs.Schema.{filesOf, versionOf, leastFrom}
-use Rattle.schema_calls.specs.Calls.{fileIs, leastWith}
-use Rattle.schema_calls.proofs.Laws.Scans.{left-next, left-none}
+use Rattle.schema_calls.specs.Calls.{fileMatches, leastWith}
+use Rattle.tables.proofs.Laws.Scans.{drop-next, drop-end}
 
--- no file stands behind the last
-pub files-none : (l : List File) (n : ℕ) → n ≡ length l → 0 ≡ filesOf (drop n l)
+-- no file is behind the last
+pub files-none : (l : List File) (n : ℕ) → n ≡ length l → noSet ≡ filesOf (drop n l)
 unfolding filesOf
 files-none l n e = rw (e, drop-length l)
 
@@ -37,11 +37,11 @@ files-all l i s h e = let z : i ≡ 0 = omega arith in e ∙ ap (λ (n : ℕ). f
 -- ---- versions
 
 module _ (sc : Schema) (f : ℕ) where
-  pub version-at : {d : File} → firstOf (fileIs f) (sc .files) ≡ some d → d .version ≡ versionOf sc f
+  pub version-at : {d : File} → firstOf (fileMatches f) (sc .files) ≡ some d → d .version ≡ versionOf sc f
   unfolding versionOf
   version-at e = rw (versionOf, e)
 
-  pub version-none : firstOf (fileIs f) (sc .files) ≡ none → 0 ≡ versionOf sc f
+  pub version-none : firstOf (fileMatches f) (sc .files) ≡ none → 0 ≡ versionOf sc f
   unfolding versionOf
   version-none e = rw (versionOf, e)
 
@@ -56,12 +56,12 @@ module _ (s f v w : ℕ) where
   least-new h k = rw (leastWith, h) (sym (min-eq-right k))
 
 -- what is left of the files gives the whole
-module _ (l : List File) (n : ℕ) (fits : n ≤ length l) (i s v : ℕ) where
-  pub least-more : i < n → {f w u : ℕ} → f ≡ getD l i noFile .file → w ≡ getD l i noFile .version → u ≡ leastWith s f v w
-      → leastFrom s u (drop (i + 1) (take n l)) ≡ leastFrom s v (drop i (take n l))
+module _ (l : List File) (i s v : ℕ) where
+  pub least-more : i < length l → {f w u : ℕ} → f ≡ getD l i noFile .file → w ≡ getD l i noFile .version → u ≡ leastWith s f v w
+      → leastFrom s u (drop (i + 1) l) ≡ leastFrom s v (drop i l)
   unfolding leastFrom
-  least-more h a b e = rw (left-next noFile l n fits i h, e, a, b)
+  least-more h a b e = rw (drop-next l i noFile h, e, a, b)
 
-  pub least-end : n ≤ i → leastFrom s v (drop i (take n l)) ≡ v
+  pub least-end : length l ≤ i → leastFrom s v (drop i l) ≡ v
   unfolding leastFrom
-  least-end h = rw (left-none noFile l n fits i h)
+  least-end h = rw (drop-end l i h)

@@ -8,30 +8,30 @@ use lib.Dec.{eqb}
 use Rattle.tables.specs.Paths.{begins, samePath}
 use Rattle.tables.specs.Records.{SchemaPath, Group, SubElement}
 use Rattle.deck.specs.Schema.{meets, rowsMeet, beginsGroup}
-use Rattle.schema_calls.specs.Calls.{rowIs, groupIs}
+use Rattle.schema_calls.specs.Calls.{rowMatches, groupMatches}
 
 -- ---- the row sought
 
 module _ (r : SubElement) (t n m : ℕ) {ty : ℕ} (at : ty ≡ r .type) where
-  pub row-other-type : (ty ≡ t → ⊥) → false ≡ rowIs t n m r
+  pub row-other-type : (ty ≡ t → ⊥) → false ≡ rowMatches t n m r
   row-other-type h = rw (← at, ne-eqb ty t h)
 
   module _ (same : ty ≡ t) {name : ℕ} (an : name ≡ r .name) where
-    pub row-other-name : (name ≡ n → ⊥) → false ≡ rowIs t n m r
+    pub row-other-name : (name ≡ n → ⊥) → false ≡ rowMatches t n m r
     row-other-name h = rw (← at, eq-eqb ty t same, ← an, ne-eqb name n h)
 
-    pub row-mask : name ≡ n → {k : ℕ} → k ≡ r .mask → not (eqb (bitAnd k m) 0) ≡ rowIs t n m r
+    pub row-mask : name ≡ n → {k : ℕ} → k ≡ r .mask → not (eqb (bitAnd k m) 0) ≡ rowMatches t n m r
     unfolding meets
     row-mask h e = rw (← at, eq-eqb ty t same, ← an, eq-eqb name n h, e)
 
 -- ---- the group sought
 
 module _ (g : Group) (t : ℕ) (p : SchemaPath) {ty : ℕ} (at : ty ≡ g .type) where
-  pub group-other-type : (ty ≡ t → ⊥) → false ≡ groupIs t p g
+  pub group-other-type : (ty ≡ t → ⊥) → false ≡ groupMatches t p g
   group-other-type h = rw (← at, ne-eqb ty t h)
 
-  pub group-path : ty ≡ t → {q : SchemaPath} → q ≡ g .path → {b : Bool} → b ≡ samePath q p → b ≡ groupIs t p g
-  group-path h e k = rw (← at, eq-eqb ty t h, ← e) k
+  pub group-same-path : ty ≡ t → {q : SchemaPath} → q ≡ g .path → {b : Bool} → b ≡ samePath q p → b ≡ groupMatches t p g
+  group-same-path h e k = rw (← at, eq-eqb ty t h, ← e) k
 
 -- ---- a group that a row's path begins
 

@@ -9,7 +9,7 @@ use lib.ListN.{length, take}
 use Rattle.tables.specs.Lists.{anyOf, allOf}
 use Rattle.tables.specs.Records.{SchemaPath, Mode, sequence, choice, bag, mixed, characters, SubElement, Schema, typeRow}
 use Rattle.tables.specs.SchemaTable.{modeNumber}
-use Rattle.deck.specs.Schema.{properBeginnings, isCharacters, declaredType, groupAt, hasGroup, rowMayStand, groupRule, rowsMeet, beginsGroup, subElementRule}
+use Rattle.deck.specs.Schema.{properBeginnings, isCharacters, declaredType, groupAt, hasGroup, pathValid, groupRule, rowsMeet, beginsGroup, subElementRule}
 use Rattle.schema_calls.specs.Calls.{groupsAbove, rowsAbove}
 use Rattle.schema_calls.proofs.Laws.Schemas.{groups-all}
 
@@ -31,32 +31,32 @@ characters-not bag n = refl
 characters-not mixed n = refl
 characters-not characters n = absurd (n refl)
 
--- ---- where a row may stand
+-- ---- the path of a row
 
 module _ (sc : Schema) (n t : ℕ) (p : SchemaPath) {b : Bool} (e : b ≡ declaredType sc t) where
   pub declared-below : b ≡ true → t < length (sc .types)
   unfolding declaredType
   declared-below h = ltb-true t (length (sc .types)) (sym e ∙ h)
 
-  pub stand-undeclared : b ≡ false → false ≡ rowMayStand (groupsAbove sc n) t p
-  unfolding rowMayStand groupsAbove declaredType
-  stand-undeclared h = rw (sym e ∙ h)
+  pub path-undeclared : b ≡ false → false ≡ pathValid (groupsAbove sc n) t p
+  unfolding pathValid groupsAbove declaredType
+  path-undeclared h = rw (sym e ∙ h)
 
   module _ (declared : b ≡ true) {m : ℕ} (k : m ≡ modeNumber (typeRow sc t .mode)) where
-    pub stand-characters : m ≡ 4 → false ≡ rowMayStand (groupsAbove sc n) t p
-    unfolding rowMayStand groupsAbove declaredType
-    stand-characters h = rw (sym e ∙ declared, characters-is (typeRow sc t .mode) (sym k ∙ h))
+    pub path-characters : m ≡ 4 → false ≡ pathValid (groupsAbove sc n) t p
+    unfolding pathValid groupsAbove declaredType
+    path-characters h = rw (sym e ∙ declared, characters-is (typeRow sc t .mode) (sym k ∙ h))
 
-    pub stand-beginnings : (m ≡ 4 → ⊥) → {r : Bool} → r ≡ allOf (hasGroup (groupsAbove sc n) t) (properBeginnings p) → r ≡ rowMayStand (groupsAbove sc n) t p
-    unfolding rowMayStand groupsAbove declaredType
-    stand-beginnings h w = rw (sym e ∙ declared, characters-not (typeRow sc t .mode) (λ z. h (k ∙ z))) w
+    pub path-beginnings : (m ≡ 4 → ⊥) → {r : Bool} → r ≡ allOf (hasGroup (groupsAbove sc n) t) (properBeginnings p) → r ≡ pathValid (groupsAbove sc n) t p
+    unfolding pathValid groupsAbove declaredType
+    path-beginnings h w = rw (sym e ∙ declared, characters-not (typeRow sc t .mode) (λ z. h (k ∙ z))) w
 
 -- ---- G rows
 
-module _ (sc : Schema) (t : ℕ) (p : SchemaPath) {s : Bool} (e : s ≡ rowMayStand sc t p) (mode : Mode) where
-  pub group-stands-not : s ≡ false → false ≡ groupRule sc (record { type = t; path = p; mode = mode })
+module _ (sc : Schema) (t : ℕ) (p : SchemaPath) {s : Bool} (e : s ≡ pathValid sc t p) (mode : Mode) where
+  pub group-path-invalid : s ≡ false → false ≡ groupRule sc (record { type = t; path = p; mode = mode })
   unfolding groupRule
-  group-stands-not h = rw (sym e ∙ h)
+  group-path-invalid h = rw (sym e ∙ h)
 
   pub group-once : s ≡ true → {g : Bool} → g ≡ hasGroup sc t p → not g ≡ groupRule sc (record { type = t; path = p; mode = mode })
   unfolding groupRule
@@ -64,22 +64,22 @@ module _ (sc : Schema) (t : ℕ) (p : SchemaPath) {s : Bool} (e : s ≡ rowMaySt
 
 -- ---- S rows
 
--- an S row stands by the groups alone
-stand-rows : (sc : Schema) (m t : ℕ) (p : SchemaPath) → rowMayStand sc t p ≡ rowMayStand (rowsAbove sc m) t p
-unfolding rowMayStand rowsAbove declaredType hasGroup groupAt
-stand-rows sc m t p = refl
+-- an S row's path is valid by the groups alone
+path-rows : (sc : Schema) (m t : ℕ) (p : SchemaPath) → pathValid sc t p ≡ pathValid (rowsAbove sc m) t p
+unfolding pathValid rowsAbove declaredType hasGroup groupAt
+path-rows sc m t p = refl
 
--- and all groups stand above it
-stand-all : (sc : Schema) (n m t : ℕ) (p : SchemaPath) → n ≡ length (sc .groups) → rowMayStand (groupsAbove sc n) t p ≡ rowMayStand (rowsAbove sc m) t p
-stand-all sc n m t p e = ap (λ (s : Schema). rowMayStand s t p) (groups-all sc n e) ∙ stand-rows sc m t p
+-- and all groups are above it
+path-all : (sc : Schema) (n m t : ℕ) (p : SchemaPath) → n ≡ length (sc .groups) → pathValid (groupsAbove sc n) t p ≡ pathValid (rowsAbove sc m) t p
+path-all sc n m t p e = ap (λ (s : Schema). pathValid s t p) (groups-all sc n e) ∙ path-rows sc m t p
 
-module _ (sc : Schema) (m : ℕ) (r : SubElement) (n : ℕ) (all : n ≡ length (sc .groups)) {s : Bool} (e : s ≡ rowMayStand (groupsAbove sc n) (r .type) (r .path)) where
-  stands : rowMayStand (rowsAbove sc m) (r .type) (r .path) ≡ s
-  stands = sym (e ∙ stand-all sc n m (r .type) (r .path) all)
+module _ (sc : Schema) (m : ℕ) (r : SubElement) (n : ℕ) (all : n ≡ length (sc .groups)) {s : Bool} (e : s ≡ pathValid (groupsAbove sc n) (r .type) (r .path)) where
+  valid : pathValid (rowsAbove sc m) (r .type) (r .path) ≡ s
+  valid = sym (e ∙ path-all sc n m (r .type) (r .path) all)
 
-  pub sub-stands-not : s ≡ false → false ≡ subElementRule (rowsAbove sc m) r
+  pub sub-path-invalid : s ≡ false → false ≡ subElementRule (rowsAbove sc m) r
   unfolding subElementRule
-  sub-stands-not h = rw (stands ∙ h)
+  sub-path-invalid h = rw (valid ∙ h)
 
   module _ (hs : s ≡ true) {d : Bool} (ed : d ≡ declaredType sc (r .childType)) where
     child : declaredType (rowsAbove sc m) (r .childType) ≡ d
@@ -88,7 +88,7 @@ module _ (sc : Schema) (m : ℕ) (r : SubElement) (n : ℕ) (all : n ≡ length 
 
     pub sub-child-not : d ≡ false → false ≡ subElementRule (rowsAbove sc m) r
     unfolding subElementRule
-    sub-child-not h = rw (stands ∙ hs, child ∙ h)
+    sub-child-not h = rw (valid ∙ hs, child ∙ h)
 
     module _ (hd : d ≡ true) {k : Bool} (ek : k ≡ anyOf (rowsMeet r) (take m (sc .subElements))) where
       meets-above : anyOf (rowsMeet r) (rowsAbove sc m .subElements) ≡ k
@@ -97,16 +97,16 @@ module _ (sc : Schema) (m : ℕ) (r : SubElement) (n : ℕ) (all : n ≡ length 
 
       pub sub-meets : k ≡ true → false ≡ subElementRule (rowsAbove sc m) r
       unfolding subElementRule
-      sub-meets h = rw (stands ∙ hs, child ∙ hd, meets-above ∙ h)
+      sub-meets h = rw (valid ∙ hs, child ∙ hd, meets-above ∙ h)
 
       pub sub-begins : k ≡ false → {j : Bool} → j ≡ anyOf (beginsGroup r) (sc .groups) → not j ≡ subElementRule (rowsAbove sc m) r
       unfolding subElementRule rowsAbove
-      sub-begins h ej = rw (stands ∙ hs, child ∙ hd, meets-above ∙ h, ej)
+      sub-begins h ej = rw (valid ∙ hs, child ∙ hd, meets-above ∙ h, ej)
 
--- a row that may stand has a declared child type
+-- a row that the rule lets through has a declared child type
 pub child-declared : (sc : Schema) (r : SubElement) → subElementRule sc r ≡ true → r .childType < length (sc .types)
 unfolding subElementRule declaredType
 child-declared sc r h =
     let (first, _) = and-eq-true-iff _ (not (anyOf (beginsGroup r) (sc .groups))) .0 h in
     let (two, _) = and-eq-true-iff _ (not (anyOf (rowsMeet r) (sc .subElements))) .0 first in
-    ltb-true (r .childType) (length (sc .types)) (and-eq-true-iff (rowMayStand sc (r .type) (r .path)) (ltb (r .childType) (length (sc .types))) .0 two .1)
+    ltb-true (r .childType) (length (sc .types)) (and-eq-true-iff (pathValid sc (r .type) (r .path)) (ltb (r .childType) (length (sc .types))) .0 two .1)

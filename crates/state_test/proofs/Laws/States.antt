@@ -6,29 +6,31 @@ use Prim.Native.Nat.{ℕ, _+_, _<_}
 use lib.ListN.{length}
 use Rattle.tables.specs.Cells.{Each}
 use Rattle.tables.specs.Limits.{fileLimit}
-use Rattle.tables.specs.Records.{File, Fixed, State}
+use Rattle.tables.specs.Records.{File, Tree, Fixed, State}
+use Rattle.tables.proofs.Laws.Cells.{each-imp}
+use Rattle.table_test.specs.ElementsTest.{TreeIn}
 use Rattle.table_test.specs.SchemaTest.{FilesIn}
 use Rattle.table_test.specs.TablesTest.{tablesPass}
-use Rattle.state_test.specs.StateTest.{schemaStands, filesStand, rootsStand, listsTyped, stateStands, lentTablesPass, fixedIn, stateIn}
+use Rattle.state_test.specs.StateTest.{schemaValid, filesDeclared, rootsValid, listsTyped, stateValid, lentTablesPass, fixedIn, stateIn}
 
 module _ (x : Fixed) (s : State) where
-  pub state-stop-1 : schemaStands (x .schema) ≡ false → false ≡ stateStands x s
-  unfolding stateStands
-  state-stop-1 a = rw (stateStands, a)
+  pub state-stop-1 : schemaValid (x .schema) ≡ false → false ≡ stateValid x s
+  unfolding stateValid
+  state-stop-1 a = rw (stateValid, a)
 
-  module _ (a : schemaStands (x .schema) ≡ true) where
-    pub state-stop-2 : filesStand x s ≡ false → false ≡ stateStands x s
-    unfolding stateStands
-    state-stop-2 b = rw (stateStands, a, b)
+  module _ (a : schemaValid (x .schema) ≡ true) where
+    pub state-stop-2 : filesDeclared x s ≡ false → false ≡ stateValid x s
+    unfolding stateValid
+    state-stop-2 b = rw (stateValid, a, b)
 
-    module _ (b : filesStand x s ≡ true) where
-      pub state-stop-3 : rootsStand x ≡ false → false ≡ stateStands x s
-      unfolding stateStands
-      state-stop-3 e = rw (stateStands, a, b, e)
+    module _ (b : filesDeclared x s ≡ true) where
+      pub state-stop-3 : rootsValid x ≡ false → false ≡ stateValid x s
+      unfolding stateValid
+      state-stop-3 e = rw (stateValid, a, b, e)
 
-      pub state-last : rootsStand x ≡ true → {r : Bool} → r ≡ listsTyped x 0 (s .model .lists) → r ≡ stateStands x s
-      unfolding stateStands
-      state-last e g = g ∙ rw (stateStands, a, b, e)
+      pub state-last : rootsValid x ≡ true → {r : Bool} → r ≡ listsTyped x 0 (s .model .lists) → r ≡ stateValid x s
+      unfolding stateValid
+      state-last e g = g ∙ rw (stateValid, a, b, e)
 
 module _ (deck schema elements model log : List ℕ) where
   pub lent-stop : tablesPass (length deck) schema elements model log ≡ false → false ≡ lentTablesPass deck schema elements model log
@@ -36,7 +38,7 @@ module _ (deck schema elements model log : List ℕ) where
   lent-stop e = rw (lentTablesPass, e)
 
   pub lent-last : tablesPass (length deck) schema elements model log ≡ true → {r : Bool}
-      → r ≡ stateStands (fixedIn deck schema elements) (stateIn model log) → r ≡ lentTablesPass deck schema elements model log
+      → r ≡ stateValid (fixedIn deck schema elements) (stateIn model log) → r ≡ lentTablesPass deck schema elements model log
   unfolding lentTablesPass
   lent-last e g = g ∙ rw (lentTablesPass, e)
 
@@ -44,3 +46,7 @@ module _ (deck schema elements model log : List ℕ) where
 pub files-low : (low : ℕ) (fs : List File) → FilesIn low fs → Each (λ (d : File). d .file < fileLimit) fs
 files-low low [] h = tt
 files-low low (f ∷ fs) h = (h .1, files-low (f .file + 1) fs (h .3))
+
+-- and of the trees
+pub trees-low : (n : ℕ) (ts : List Tree) → Each (TreeIn n) ts → Each (λ (t : Tree). t .file < fileLimit) ts
+trees-low n ts h = each-imp (TreeIn n) (λ (t : Tree). t .file < fileLimit) ts (λ t k. k .0) h

@@ -1,38 +1,26 @@
 -- The test of a model table: a table that passes is the encoding of what it says, and each such table passes. Assumes nothing.
 use mathlib.Core.Bool.{Bool, true, false, _&&_, and-eq-true-iff}
-use mathlib.Core.List.{List, [], _∷_, _++_, map, append-assoc}
+use mathlib.Core.List.{List, [], _∷_, _++_, map, append-assoc, append-nil}
 use mathlib.Core.Option.{Option, none, some}
 use mathlib.Core.Path.{_≡_, refl, sym, ap, _∙_, subst}
-use Prim.Native.Nat.{ℕ, zero, suc, _+_, _-_, _≤_, _<_}
+use Prim.Native.Nat.{ℕ, zero, suc, _+_, _-_, _*_, _≤_, _<_}
 use native.Mathlib.Nat.{zero-add, add-sub-cancel-left, le-of-suc-le-suc, not-suc-le-zero}
 use native.Mathlib.Omega.{arith}
 use borrow.Author.Tests.{eqb-true, leb-true, ltb-true, le-leb, eq-eqb}
 use lib.Dec.{eqb, leb, ltb}
 use lib.ListN.{length, getD, take, drop, replicate, length-replicate, length-map, length-drop, take-append-drop}
 use lib.Seq.{drop-at, take-at, take-add, take-all, drop-drop, drop-cons, drop-append-add, length-take-le, getD-take, getD-drop}
-use Rattle.tables.specs.Cells.{padded, Each}
+use Rattle.tables.specs.Cells.{padded, cells, rowCells, rowsOf, rowAt, Each, between}
 use Rattle.tables.specs.Limits.{elementLimit, itemLimit}
 use Rattle.tables.specs.Lists.{allOf, sum}
 use Rattle.tables.specs.Records.{Item, child, text, contentItems, listOf}
 use Rattle.tables.specs.ModelTable.{parentsAt, setsAt, startsAt, itemsAt, modelSize, parentCell, cellParent, itemCell, cellItem, sums, gaps, gapsOf, flat, startOf, cut, countOf, encodeModel, modelOf, ParentBelow, ItemBelow, SizedModel, GoodModel}
-use Rattle.table_test.specs.ModelTest.{onceIn, between, isZero, atMost, rising, itemInRange, cellInRange, countIn, totalIn, modelShape, modelUnused, modelUsed, modelOnce, isModelTable, Shaped, TestedModel}
-use Rattle.tables.proofs.Laws.Cells.{getD-zeros, mid-padded}
-use Rattle.table_test.proofs.Laws.Scans.{all-more, all-stop, all-end}
-use Rattle.tables.proofs.Laws.ModelTable.{cellItem-child, cellItem-text, cellItem-back, read-count, read-start, start-room, start-total, items-back, starts-back, parentCells, setCells, startCells, itemCells, around-parents, around-sets, around-starts, around-items, before-sets, before-starts, before-items, length-startsUsed, length-itemsUsed}
-
--- ---- every entry passes
-
-pub all-head : {A : Type 0} (t : A → Bool) (a : A) (l : List A) → allOf t (a ∷ l) ≡ true → t a ≡ true
-unfolding allOf
-all-head t a l h = by (t a) h
-  where
-    by : (b : Bool) → elim b [ true ↦ allOf t l | false ↦ false ] ≡ true → b ≡ true
-    by true e = refl
-    by false e = e
-
-pub all-tail : {A : Type 0} (t : A → Bool) (a : A) (l : List A) → allOf t (a ∷ l) ≡ true → allOf t l ≡ true
-unfolding allOf
-all-tail t a l h = rw (allOf, all-head t a l h) at h
+use Rattle.table_test.specs.ModelTest.{onceIn, isZero, atMost, rising, itemInRange, cellInRange, countIn, totalIn, modelShape, modelUnused, modelUsed, modelOnce, isModelTable, Shaped, TestedModel}
+use Rattle.tables.specs.SetCells.{setWidth, setCells, cellsSet}
+use Rattle.tables.proofs.Laws.Cells.{getD-zeros, mid-padded, cells-again, length-rows, length-rowsOf}
+use Rattle.tables.proofs.Laws.Scans.{all-more, all-stop, all-end, all-head, all-tail, all-map}
+use Rattle.tables.proofs.Laws.SetCells.{wide-set, set-again}
+use Rattle.tables.proofs.Laws.ModelTable.{cellItem-child, cellItem-text, cellItem-back, read-count, read-start, start-room, start-total, items-back, starts-back, parentArea, startArea, itemArea, setArea, around-parents, around-sets, around-starts, around-items, before-sets, before-starts, before-items, length-startsUsed, length-itemsUsed}
 
 -- ---- cells that say something, and back
 
@@ -43,12 +31,12 @@ parentCell-back (suc p) = refl
 
 pub itemCell-back : (c : ℕ) → itemCell (cellItem c) ≡ c
 unfolding itemCell
-itemCell-back c = by (ltb c 1024) refl
+itemCell-back c = by (ltb c elementLimit) refl
   where
-    by : (b : Bool) → ltb c 1024 ≡ b → itemCell (cellItem c) ≡ c
-    by true e = rw (← cellItem-child c (borrow.Author.Tests.ltb-true c 1024 e))
+    by : (b : Bool) → ltb c elementLimit ≡ b → itemCell (cellItem c) ≡ c
+    by true e = rw (← cellItem-child c (borrow.Author.Tests.ltb-true c elementLimit e))
     by false e =
-        let h : 1024 ≤ c = borrow.Author.Tests.ltb-false c 1024 e in
+        let h : elementLimit ≤ c = borrow.Author.Tests.ltb-false c elementLimit e in
         rw (← cellItem-text c h) (omega arith)
 
 map-parents : (l : List ℕ) → map parentCell (map cellParent l) ≡ l
@@ -225,45 +213,41 @@ each-items n texts [] k h = tt
 each-items n texts (a ∷ l) k h =
     (item-range n texts a k (all-head (itemInRange n texts) a l h), each-items n texts l k (all-tail (itemInRange n texts) a l h))
 
-pub all-map : {A B : Type 0} (t : B → Bool) (f : A → B) (l : List A) → allOf t (map f l) ≡ allOf (λ (a : A). t (f a)) l
-unfolding allOf
-all-map t f [] = refl
-all-map t f (a ∷ l) = ap (λ (b : Bool). elim (t (f a)) [ true ↦ b | false ↦ false ]) (all-map t f l)
-
 -- the four unused parts
 record Unused (xs : List ℕ) : Type 0 where
-  parents : allOf isZero (between (parentsAt + countIn xs) setsAt xs) ≡ true
-  sets : allOf isZero (between (setsAt + countIn xs) startsAt xs) ≡ true
+  parents : allOf isZero (between (parentsAt + countIn xs) startsAt xs) ≡ true
   starts : allOf isZero (between (startsAt + 1 + countIn xs) itemsAt xs) ≡ true
-  items : allOf isZero (between (itemsAt + totalIn xs) modelSize xs) ≡ true
+  items : allOf isZero (between (itemsAt + totalIn xs) setsAt xs) ≡ true
+  sets : allOf isZero (between (setsAt + countIn xs * setWidth) modelSize xs) ≡ true
 
 unused-parts : (xs : List ℕ) → modelUnused xs ≡ true → Unused xs
 unfolding modelUnused
 unused-parts xs h =
-    let b1 = allOf isZero (between (parentsAt + countIn xs) setsAt xs) in
-    let b2 = allOf isZero (between (setsAt + countIn xs) startsAt xs) in
-    let b3 = allOf isZero (between (startsAt + 1 + countIn xs) itemsAt xs) in
-    let b4 = allOf isZero (between (itemsAt + totalIn xs) modelSize xs) in
+    let b1 = allOf isZero (between (parentsAt + countIn xs) startsAt xs) in
+    let b2 = allOf isZero (between (startsAt + 1 + countIn xs) itemsAt xs) in
+    let b3 = allOf isZero (between (itemsAt + totalIn xs) setsAt xs) in
+    let b4 = allOf isZero (between (setsAt + countIn xs * setWidth) modelSize xs) in
     let h2 : b2 && (b3 && b4) ≡ true = and-eq-true-iff b1 (b2 && (b3 && b4)) .0 h .1 in
     let h3 : b3 && b4 ≡ true = and-eq-true-iff b2 (b3 && b4) .0 h2 .1 in
-    record { parents = and-eq-true-iff b1 (b2 && (b3 && b4)) .0 h .0; sets = and-eq-true-iff b2 (b3 && b4) .0 h2 .0; starts = and-eq-true-iff b3 b4 .0 h3 .0; items = and-eq-true-iff b3 b4 .0 h3 .1 }
+    record {
+      parents = and-eq-true-iff b1 (b2 && (b3 && b4)) .0 h .0;
+      starts = and-eq-true-iff b2 (b3 && b4) .0 h2 .0;
+      items = and-eq-true-iff b3 b4 .0 h3 .0;
+      sets = and-eq-true-iff b3 b4 .0 h3 .1;
+    }
+
+-- the cells of an area and what stands behind it
+area-next : (xs : List ℕ) (a n : ℕ) → take n (drop a xs) ++ drop (a + n) xs ≡ drop a xs
+area-next xs a n = ap (λ (q : List ℕ). take n (drop a xs) ++ q) (sym (drop-drop n a xs)) ∙ take-append-drop n (drop a xs)
 
 -- the table, cut into its areas
 areas-of : (xs : List ℕ) → length xs ≡ modelSize
-    → countIn xs ∷ (take 1024 (drop 1 xs) ++ (take 1024 (drop 1025 xs) ++ (take 1025 (drop 2049 xs) ++ take 2048 (drop 3074 xs)))) ≡ xs
+    → countIn xs
+    ∷ (take elementLimit (drop parentsAt xs)
+    ++ (take (suc elementLimit) (drop startsAt xs) ++ (take itemLimit (drop itemsAt xs) ++ drop setsAt xs)))
+    ≡ xs
 areas-of xs h =
-    let d = length-drop 3074 xs in
-    let e4 : take 2048 (drop 3074 xs) ≡ drop 3074 xs = take-all 2048 (drop 3074 xs) (omega arith) in
-    let e3 : take 1025 (drop 2049 xs) ++ drop 3074 xs ≡ drop 2049 xs =
-    ap (λ (q : List ℕ). take 1025 (drop 2049 xs) ++ q) (sym (drop-drop 1025 2049 xs)) ∙ take-append-drop 1025 (drop 2049 xs)
-    in
-    let e2 : take 1024 (drop 1025 xs) ++ drop 2049 xs ≡ drop 1025 xs =
-    ap (λ (q : List ℕ). take 1024 (drop 1025 xs) ++ q) (sym (drop-drop 1024 1025 xs)) ∙ take-append-drop 1024 (drop 1025 xs)
-    in
-    let e1 : take 1024 (drop 1 xs) ++ drop 1025 xs ≡ drop 1 xs =
-    ap (λ (q : List ℕ). take 1024 (drop 1 xs) ++ q) (sym (drop-drop 1024 1 xs)) ∙ take-append-drop 1024 (drop 1 xs)
-    in
-    rw (e4, e3, e2, e1) (sym (drop-cons xs 0 0 (omega arith)))
+    rw (area-next xs itemsAt itemLimit, area-next xs startsAt (suc elementLimit), area-next xs parentsAt elementLimit) (sym (drop-cons xs 0 0 (omega arith)))
 
 module _ (texts : ℕ) (xs : List ℕ) (few : texts ≤ itemLimit) (s : Shaped xs) where
   length-at : (a n : ℕ) → a + n ≤ length xs → length (take n (drop a xs)) ≡ n
@@ -307,42 +291,61 @@ module _ (texts : ℕ) (xs : List ℕ) (few : texts ≤ itemLimit) (s : Shaped x
   unfolding contentItems
   total-is = ap sum lengths-are ∙ sum-gaps-is
 
-  parents-area : Unused xs → padded elementLimit (map parentCell (modelOf xs .parents)) ≡ take 1024 (drop 1 xs)
+  parents-area : Unused xs → padded elementLimit (map parentCell (modelOf xs .parents)) ≡ take elementLimit (drop parentsAt xs)
   unfolding modelOf
   parents-area u =
-      ap (padded elementLimit) (map-parents (take (countIn xs) (drop 1 xs)))
-      ∙ area-zeros xs 1 (countIn xs) 1024 (s .count) (omega (arith, s .size)) (u .parents)
+      ap (padded elementLimit) (map-parents (take (countIn xs) (drop parentsAt xs)))
+      ∙ area-zeros xs parentsAt (countIn xs) elementLimit (s .count) (omega (arith, s .size)) (u .parents)
 
-  sets-area : Unused xs → padded elementLimit (modelOf xs .sets) ≡ take 1024 (drop 1025 xs)
-  unfolding modelOf
-  sets-area u = area-zeros xs 1025 (countIn xs) 1024 (s .count) (omega (arith, s .size)) (u .sets)
-
-  starts-area : Unused xs → padded (suc elementLimit) (sums 0 (map length (modelOf xs .lists))) ≡ take 1025 (drop 2049 xs)
+  starts-area : Unused xs → padded (suc elementLimit) (sums 0 (map length (modelOf xs .lists))) ≡ take (suc elementLimit) (drop startsAt xs)
   starts-area u =
       let n = countIn xs in
       let ss = between (startsAt + 1) (startsAt + 1 + n) xs in
       let z : startsAt + 1 + n ≡ startsAt + suc n = omega arith in
-      ap (λ (l : List ℕ). padded 1025 (sums 0 l)) lengths-are
-      ∙ ap (padded 1025) (sums-gaps 0 ss (s .rises) ∙ sym (starts-are xs (s .size) (s .count) (s .first)))
-      ∙ area-zeros xs 2049 (suc n) 1025 (omega (arith, s .count)) (omega (arith, s .size)) (ap (λ (k : ℕ). allOf isZero (between k itemsAt xs)) (sym z) ∙ u .starts)
+      ap (λ (l : List ℕ). padded (suc elementLimit) (sums 0 l)) lengths-are
+      ∙ ap (padded (suc elementLimit)) (sums-gaps 0 ss (s .rises) ∙ sym (starts-are xs (s .size) (s .count) (s .first)))
+      ∙ area-zeros xs startsAt (suc n) (suc elementLimit) (omega (arith, s .count)) (omega (arith, s .size))
+      (ap (λ (k : ℕ). allOf isZero (between k itemsAt xs)) (sym z) ∙ u .starts)
 
-  items-area : Unused xs → padded itemLimit (map itemCell (flat (modelOf xs .lists))) ≡ take 2048 (drop 3074 xs)
+  items-area : Unused xs → padded itemLimit (map itemCell (flat (modelOf xs .lists))) ≡ take itemLimit (drop itemsAt xs)
   items-area u =
       ap (padded itemLimit) (ap (map itemCell) flat-is ∙ map-items (take (totalIn xs) (drop itemsAt xs)))
-      ∙ area-zeros xs 3074 (totalIn xs) 2048 (s .total) (omega (arith, s .size)) (u .items)
+      ∙ area-zeros xs itemsAt (totalIn xs) itemLimit (s .total) (omega (arith, s .size)) (u .items)
+
+  -- rows of sets, as many as the table has room for
+  sets-size : length (drop setsAt xs) ≡ elementLimit * setWidth
+  sets-size = length-drop setsAt xs ∙ omega (arith, s .size)
+
+  set-row : (i : ℕ) → i < countIn xs → length (rowAt setWidth i (drop setsAt xs)) ≡ setWidth
+  set-row i h =
+      let z = sets-size in
+      length-take-le setWidth (drop (i * setWidth) (drop setsAt xs)) (rw (length-drop (i * setWidth) (drop setsAt xs)) (omega (arith, s .count)))
+
+  sets-zero : Unused xs → drop (countIn xs * setWidth) (drop setsAt xs) ≡ replicate (elementLimit * setWidth - countIn xs * setWidth) 0
+  sets-zero u =
+      let n = countIn xs in
+      let d = length-drop (setsAt + n * setWidth) xs in
+      let rest : length (drop (setsAt + n * setWidth) xs) ≡ elementLimit * setWidth - n * setWidth = omega (arith, s .size, s .count) in
+      let all = take-all (modelSize - (setsAt + n * setWidth)) (drop (setsAt + n * setWidth) xs) (omega (arith, s .size)) in
+      drop-drop (n * setWidth) setsAt xs
+      ∙ zeros-are (drop (setsAt + n * setWidth) xs) (ap (allOf isZero) (sym all) ∙ u .sets)
+      ∙ ap (λ (k : ℕ). replicate k 0) rest
+
+  sets-area : Unused xs → cells setWidth elementLimit setCells (modelOf xs .sets) ≡ drop setsAt xs
+  unfolding modelOf
+  sets-area u =
+      cells-again setWidth setCells wide-set cellsSet elementLimit (countIn xs) (drop setsAt xs) sets-size (s .count)
+      (λ i h. set-again (rowAt setWidth i (drop setsAt xs)) (set-row i h)) (sets-zero u)
 
   encodes : Unused xs → xs ≡ encodeModel (modelOf xs)
   unfolding encodeModel
   encodes u =
       let a = count-is in
       let b = parents-area u in
-      let c = sets-area u in
-      let d = starts-area u in
-      let e = items-area u in
-      let t : encodeModel (modelOf xs) ≡ countIn xs ∷ (take 1024 (drop 1 xs) ++ (take 1024 (drop 1025 xs) ++ (take 1025 (drop 2049 xs) ++ take 2048 (drop 3074 xs)))) =
-      λ i. a i ∷ (b i ++ (c i ++ (d i ++ e i)))
-      in
-      sym (t ∙ areas-of xs (s .size))
+      let c = starts-area u in
+      let d = items-area u in
+      let e = sets-area u in
+      sym ((λ i. a i ∷ (b i ++ (c i ++ (d i ++ e i)))) ∙ areas-of xs (s .size))
 
   -- the parents and items in range
   items-tested : modelUsed texts xs ≡ true → allOf (itemInRange (countOf (modelOf xs)) texts) (flat (modelOf xs .lists)) ≡ true
@@ -367,9 +370,9 @@ module _ (texts : ℕ) (xs : List ℕ) (few : texts ≤ itemLimit) (s : Shaped x
       let k : allOf (atMost n) (take n (drop parentsAt xs)) ≡ true = ap (λ (i : ℕ). allOf (atMost n) (take i (drop parentsAt xs))) (sym (add-sub-cancel-left parentsAt n)) ∙ h in
       subst (λ (i : ℕ). Each (ParentBelow i) (map cellParent (take n (drop parentsAt xs)))) (sym count-is) (each-parents n (take n (drop parentsAt xs)) k)
 
-  sets-size : length (modelOf xs .sets) ≡ countIn xs
+  sets-count : length (modelOf xs .sets) ≡ countIn xs
   unfolding modelOf
-  sets-size = length-at setsAt (countIn xs) (omega (arith, s .size, s .count))
+  sets-count = length-rowsOf setWidth setCells wide-set cellsSet (countIn xs) (drop setsAt xs)
 
   lists-size : length (modelOf xs .lists) ≡ countIn xs
   lists-size =
@@ -379,7 +382,7 @@ module _ (texts : ℕ) (xs : List ℕ) (few : texts ≤ itemLimit) (s : Shaped x
   sized : modelUsed texts xs ≡ true → SizedModel (modelOf xs)
   sized v =
       record {
-        sets = sets-size ∙ sym count-is;
+        sets = sets-count ∙ sym count-is;
         lists = lists-size ∙ sym count-is;
         count = rw count-is (s .count);
         total = rw total-is (s .total);
@@ -543,32 +546,36 @@ module _ (texts : ℕ) (xs : List ℕ) (t : TestedModel texts xs) where
       rw (modelShape, eq-eqb (length xs) modelSize (g .size), le-leb n elementLimit c, eq-eqb (getD xs startsAt 0) 0 first-start) r
 
   passes-unused : modelUnused xs ≡ true
-  unfolding modelUnused
+  unfolding modelUnused cells
   passes-unused =
       let g = t .good in
       let m = modelOf xs in
       let n = countOf m in
-      let a : allOf isZero (between (parentsAt + countIn xs) setsAt xs) ≡ true =
-      ap (λ (k : ℕ). allOf isZero (between (parentsAt + k) setsAt xs)) count-in
-      ∙ ap (λ (q : List ℕ). allOf isZero (between (parentsAt + n) setsAt q)) (g .raw ∙ around-parents m (g .sized))
-      ∙ zero-part (n ∷ []) (map parentCell (m .parents)) (setCells m ++ (startCells m ++ itemCells m)) 1024 1 n refl (length-map (m .parents) parentCell)
-      in
-      let b : allOf isZero (between (setsAt + countIn xs) startsAt xs) ≡ true =
-      ap (λ (k : ℕ). allOf isZero (between (setsAt + k) startsAt xs)) count-in
-      ∙ ap (λ (q : List ℕ). allOf isZero (between (setsAt + n) startsAt q)) (g .raw ∙ around-sets m (g .sized))
-      ∙ zero-part (n ∷ parentCells m) (m .sets) (startCells m ++ itemCells m) 1024 1025 n (before-sets m (g .sized)) (g .sized .sets)
+      let a : allOf isZero (between (parentsAt + countIn xs) startsAt xs) ≡ true =
+      ap (λ (k : ℕ). allOf isZero (between (parentsAt + k) startsAt xs)) count-in
+      ∙ ap (λ (q : List ℕ). allOf isZero (between (parentsAt + n) startsAt q)) (g .raw ∙ around-parents m (g .sized))
+      ∙ zero-part (n ∷ []) (map parentCell (m .parents)) (startArea m ++ (itemArea m ++ setArea m)) elementLimit parentsAt n refl
+      (length-map (m .parents) parentCell)
       in
       let z : startsAt + 1 + n ≡ startsAt + suc n = omega arith in
-      let c : allOf isZero (between (startsAt + 1 + countIn xs) itemsAt xs) ≡ true =
+      let b : allOf isZero (between (startsAt + 1 + countIn xs) itemsAt xs) ≡ true =
       ap (λ (k : ℕ). allOf isZero (between (startsAt + 1 + k) itemsAt xs)) count-in
       ∙ ap (λ (k : ℕ). allOf isZero (between k itemsAt xs)) z
       ∙ ap (λ (q : List ℕ). allOf isZero (between (startsAt + suc n) itemsAt q)) (g .raw ∙ around-starts m (g .sized))
-      ∙ zero-part (n ∷ (parentCells m ++ setCells m)) (sums 0 (map length (m .lists))) (itemCells m) 1025 2049 (suc n) (before-starts m (g .sized)) (length-startsUsed m (g .sized))
+      ∙ zero-part (n ∷ parentArea m) (sums 0 (map length (m .lists))) (itemArea m ++ setArea m) (suc elementLimit) startsAt (suc n)
+      (before-starts m (g .sized)) (length-startsUsed m (g .sized))
       in
-      let d : allOf isZero (between (itemsAt + totalIn xs) modelSize xs) ≡ true =
-      ap (λ (k : ℕ). allOf isZero (between (itemsAt + k) modelSize xs)) total-in
-      ∙ ap (λ (q : List ℕ). allOf isZero (between (itemsAt + contentItems m) modelSize q)) (g .raw ∙ around-items m (g .sized))
-      ∙ zero-part (n ∷ (parentCells m ++ (setCells m ++ startCells m))) (map itemCell (flat (m .lists))) [] 2048 3074 (contentItems m) (before-items m (g .sized)) (length-itemsUsed m (g .sized))
+      let c : allOf isZero (between (itemsAt + totalIn xs) setsAt xs) ≡ true =
+      ap (λ (k : ℕ). allOf isZero (between (itemsAt + k) setsAt xs)) total-in
+      ∙ ap (λ (q : List ℕ). allOf isZero (between (itemsAt + contentItems m) setsAt q)) (g .raw ∙ around-items m (g .sized))
+      ∙ zero-part (n ∷ (parentArea m ++ startArea m)) (map itemCell (flat (m .lists))) (setArea m) itemLimit itemsAt (contentItems m)
+      (before-items m (g .sized)) (length-itemsUsed m (g .sized))
+      in
+      let d : allOf isZero (between (setsAt + countIn xs * setWidth) modelSize xs) ≡ true =
+      ap (λ (k : ℕ). allOf isZero (between (setsAt + k * setWidth) modelSize xs)) count-in
+      ∙ ap (λ (q : List ℕ). allOf isZero (between (setsAt + n * setWidth) modelSize q)) (g .raw ∙ around-sets m (g .sized) ∙ ap (λ (l : List ℕ). (n ∷ (parentArea m ++ (startArea m ++ itemArea m))) ++ l) (sym (append-nil (setArea m))))
+      ∙ zero-part (n ∷ (parentArea m ++ (startArea m ++ itemArea m))) (rowCells setCells (m .sets)) [] (elementLimit * setWidth) setsAt (n * setWidth)
+      (before-sets m (g .sized)) (length-rows setWidth setCells wide-set (m .sets) ∙ ap (λ (k : ℕ). k * setWidth) (g .sized .sets))
       in
       rw (modelUnused, a, b, c) d
 
@@ -582,7 +589,7 @@ module _ (texts : ℕ) (xs : List ℕ) (t : TestedModel texts xs) where
       ap (λ (k : ℕ). allOf (atMost k) (between parentsAt (parentsAt + k) xs)) count-in
       ∙ ap (λ (k : ℕ). allOf (atMost n) (take k (drop parentsAt xs))) (add-sub-cancel-left parentsAt n)
       ∙ ap (λ (q : List ℕ). allOf (atMost n) (take n (drop parentsAt q))) (g .raw ∙ around-parents m (g .sized))
-      ∙ ap (allOf (atMost n)) (mid-padded (n ∷ []) (map parentCell (m .parents)) (setCells m ++ (startCells m ++ itemCells m)) 1024 1 n refl (length-map (m .parents) parentCell))
+      ∙ ap (allOf (atMost n)) (mid-padded (n ∷ []) (map parentCell (m .parents)) (startArea m ++ (itemArea m ++ setArea m)) elementLimit parentsAt n refl (length-map (m .parents) parentCell))
       ∙ all-parents n (m .parents) (g .sized .parentsIn)
       in
       let b : allOf (cellInRange (countIn xs) texts) (between itemsAt (itemsAt + totalIn xs) xs) ≡ true =
@@ -591,7 +598,7 @@ module _ (texts : ℕ) (xs : List ℕ) (t : TestedModel texts xs) where
       ∙ ap (λ (k : ℕ). allOf (cellInRange n texts) (take k (drop itemsAt xs))) (add-sub-cancel-left itemsAt (contentItems m))
       ∙ ap (λ (q : List ℕ). allOf (cellInRange n texts) (take (contentItems m) (drop itemsAt q))) (g .raw ∙ around-items m (g .sized))
       ∙ ap (allOf (cellInRange n texts))
-      (mid-padded (n ∷ (parentCells m ++ (setCells m ++ startCells m))) (map itemCell (flat (m .lists))) [] 2048 3074 (contentItems m) (before-items m (g .sized)) (length-itemsUsed m (g .sized)))
+      (mid-padded (n ∷ (parentArea m ++ startArea m)) (map itemCell (flat (m .lists))) (setArea m) itemLimit itemsAt (contentItems m) (before-items m (g .sized)) (length-itemsUsed m (g .sized)))
       ∙ all-items n texts (flat (m .lists)) (g .sized .count) (g .sized .itemsIn)
       ∙ t .items
       in

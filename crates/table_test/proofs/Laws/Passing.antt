@@ -69,7 +69,7 @@ tables-pass size sc es m l hs he hm hl same deeper =
       schema-passes sc hs,
       elements-passes (length (sc .types)) size es he,
       model-passes (length (es .texts)) m hm,
-      log-passes (length (es .names)) l hl,
       eq-eqb (countOf m) (length (es .names)) same,
+      log-passes (length (es .names)) l hl,
       depths-pass (length (sc .types)) size (length (es .texts)) es m he hm deeper,
     )

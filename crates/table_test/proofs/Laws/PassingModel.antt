@@ -9,10 +9,10 @@ use Rattle.tables.specs.Records.{Item, child, text, Model}
 use Rattle.tables.specs.ModelTable.{flat, countOf, encodeModel, modelOf, ItemBelow}
 use Rattle.table_test.specs.ModelTest.{itemInRange, onceIn, modelOnce, isModelTable}
 use Rattle.table_test.specs.Passing.{ItemTextIn, ModelIn}
-use Rattle.tables.proofs.Laws.Cells.{each-imp}
+use Rattle.tables.proofs.Laws.Cells.{each-imp, each-both}
 use Rattle.tables.proofs.Laws.ModelTable.{decode-encode, hold}
 use Rattle.table_test.proofs.Laws.ModelTest.{passes}
-use Rattle.table_test.proofs.Laws.PassingRows.{each-both, each-passes}
+use Rattle.tables.proofs.Laws.Scans.{each-passes}
 
 item-passes : (n texts : ℕ) (a : Item) → ItemBelow n a × ItemTextIn texts a → itemInRange n texts a ≡ true
 unfolding itemInRange

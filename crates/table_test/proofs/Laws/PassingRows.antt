@@ -1,38 +1,24 @@
 -- The test of an area of rows: an area that is the encoding of rows which pass, passes. Assumes nothing.
-use mathlib.Core.Bool.{Bool, true, and-eq-true-iff}
+use mathlib.Core.Bool.{Bool, true}
 use mathlib.Core.List.{List, [], _∷_, _++_, map, append-assoc}
 use mathlib.Core.Path.{_≡_, refl, sym, ap, _∙_}
 use Prim.Native.Nat.{ℕ, _+_, _*_, _-_, _≤_}
 use native.Mathlib.Nat.{add-sub-cancel-left}
+use borrow.Author.Tests.{le-leb}
 use lib.ListN.{length, take, drop, replicate}
 use lib.Seq.{take-at, drop-at, drop-drop}
-use Rattle.tables.specs.Cells.{padded, Each, rowCells, cells, rowsOf}
+use Rattle.tables.specs.Cells.{padded, Each, rowCells, cells, rowsOf, between}
 use Rattle.tables.specs.Lists.{allOf}
-use Rattle.table_test.specs.ModelTest.{between, isZero}
-use Rattle.table_test.specs.RowsTest.{rowsIn, areaPasses}
+use Rattle.table_test.specs.ModelTest.{isZero}
+use Rattle.table_test.specs.AreaTest.{areaWidth, areaLimit, rowPasses, rowsIn, areaPasses}
+use Rattle.table_test.specs.declared.area_test.Area.{Area}
 use Rattle.tables.proofs.Laws.Cells.{length-rows, length-cells}
-use Rattle.table_test.proofs.Laws.ModelTest.{all-map, all-zeros}
+use Rattle.table_test.proofs.Laws.ModelTest.{all-zeros}
+use Rattle.tables.proofs.Laws.Scans.{all-map, each-passes}
 
--- ---- what holds of each entry
-
-module _ {A : Type 0} where
-  pub each-both : (P Q : A → Type 0) (l : List A) → Each P l → Each Q l → Each (λ (a : A). P a × Q a) l
-  each-both P Q [] h k = tt
-  each-both P Q (a ∷ l) h k = ((h .0, k .0), each-both P Q l (h .1) (k .1))
-
-  pub each-passes : (t : A → Bool) (l : List A) → Each (λ (a : A). t a ≡ true) l → allOf t l ≡ true
-  unfolding allOf
-  each-passes t [] h = refl
-  each-passes t (a ∷ l) h = rw (allOf, h .0) (each-passes t l (h .1))
-
-  pub all-rows : (t : List ℕ → Bool) (enc : A → List ℕ) (l : List A) → Each (λ (a : A). t (enc a) ≡ true) l → allOf t (map enc l) ≡ true
-  all-rows t enc l h = all-map t enc l ∙ each-passes (λ (a : A). t (enc a)) l h
-
--- ---- areas one behind the other
-
--- what stands behind an area s of n cells
-pub drop-next : (xs s q : List ℕ) (at n : ℕ) → drop at xs ≡ s ++ q → length s ≡ n → drop (at + n) xs ≡ q
-drop-next xs s q at n e h = sym (drop-drop n at xs) ∙ ap (drop n) e ∙ drop-at s q n h
+-- rows that pass, each as its cells
+all-rows : {A : Type 0} (t : List ℕ → Bool) (enc : A → List ℕ) (l : List A) → Each (λ (a : A). t (enc a) ≡ true) l → allOf t (map enc l) ≡ true
+all-rows t enc l h = all-map t enc l ∙ each-passes (λ a. t (enc a)) l h
 
 -- ---- an area of rows
 
@@ -54,19 +40,19 @@ module _ {A : Type 0} (w : ℕ) (enc : A → List ℕ) (wide : (a : A) → lengt
         ap (allOf isZero) (drop-at (rowCells enc l) (replicate (room * w - length (rowCells enc l)) 0) (length l * w) (length-rows w enc wide l))
         ∙ all-zeros (room * w - length (rowCells enc l))
 
-    -- the rows from a place of the table on, and what stands behind them
-    module _ (xs q : List ℕ) (at : ℕ) (few : length l ≤ room) (e : drop at xs ≡ cells w room enc l ++ q) where
-      pub cells-between : between at (at + room * w) xs ≡ cells w room enc l
-      cells-between =
-          ap (λ (k : ℕ). take k (drop at xs)) (add-sub-cancel-left at (room * w))
-          ∙ ap (take (room * w)) e
-          ∙ take-at (cells w room enc l) q (room * w) (length-cells w enc wide room l few)
+-- the area of these rows from a place of the table on, and what stands behind it
+module _ {A : Type 0} (k : Area) (enc : A → List ℕ) (wide : (a : A) → length (enc a) ≡ areaWidth k) (l : List A) (few : length l ≤ areaLimit k)
+    (xs q : List ℕ) (at : ℕ) (e : drop at xs ≡ cells (areaWidth k) (areaLimit k) enc l ++ q) where
+  pub cells-between : between at (at + areaLimit k * areaWidth k) xs ≡ cells (areaWidth k) (areaLimit k) enc l
+  cells-between =
+      ap (λ (n : ℕ). take n (drop at xs)) (add-sub-cancel-left at (areaLimit k * areaWidth k))
+      ∙ ap (take (areaLimit k * areaWidth k)) e
+      ∙ take-at (cells (areaWidth k) (areaLimit k) enc l) q (areaLimit k * areaWidth k) (length-cells (areaWidth k) enc wide (areaLimit k) l few)
 
-      pub area-passes : (t : List ℕ → Bool) (n : ℕ) → n ≡ length l → Each (λ (a : A). t (enc a) ≡ true) l
-          → areaPasses t w n (between at (at + room * w) xs) ≡ true
-      unfolding areaPasses
-      area-passes t n c h =
-          let rows : allOf t (rowsIn w (length l) (cells w room enc l)) ≡ true = ap (allOf t) rows-are ∙ all-rows t enc l h in
-          ap (λ (k : ℕ). areaPasses t w k (between at (at + room * w) xs)) c
-          ∙ ap (areaPasses t w (length l)) cells-between
-          ∙ and-eq-true-iff (allOf t (rowsIn w (length l) (cells w room enc l))) (allOf isZero (drop (length l * w) (cells w room enc l))) .1 (rows, rest-zero)
+  pub area-passes : (n : ℕ) → n ≡ length l → Each (λ (a : A). rowPasses k (enc a) ≡ true) l → areaPasses k n (between at (at + areaLimit k * areaWidth k) xs) ≡ true
+  unfolding areaPasses
+  area-passes n c h =
+      let rows : allOf (rowPasses k) (rowsIn (areaWidth k) (length l) (cells (areaWidth k) (areaLimit k) enc l)) ≡ true =
+      ap (allOf (rowPasses k)) (rows-are (areaWidth k) enc wide (areaLimit k) l) ∙ all-rows (rowPasses k) enc l h
+      in
+      rw (c, cells-between, le-leb (length l) (areaLimit k) few, rows) (rest-zero (areaWidth k) enc wide (areaLimit k) l)

@@ -1,4 +1,4 @@
--- Laws of scans: every entry tested, entries that do not fall, and no element twice in a list. Assumes nothing.
+-- Laws of scans: entries that do not fall, and no element twice in a list. Assumes nothing.
 use mathlib.Core.Bool.{Bool, true, false}
 use mathlib.Core.List.{List, [], _∷_, map}
 use mathlib.Core.Path.{_≡_, refl, sym, ap, _∙_}
@@ -15,21 +15,6 @@ use Rattle.tables.specs.Records.{Item, child, text}
 use Rattle.tables.specs.ModelTable.{cellItem}
 use Rattle.table_test.specs.ModelTest.{rising, sameChild, onceIn}
 use Rattle.tables.proofs.Laws.ModelTable.{cellItem-child, cellItem-text}
-
--- ---- every entry passes: what is left gives the whole
-
-module _ {A : Type 0} (t : A → Bool) (s : List A) (j : ℕ) (d : A) where
-  pub all-more : j < length s → t (getD s j d) ≡ true → allOf t (drop (j + 1) s) ≡ allOf t (drop j s)
-  unfolding allOf
-  all-more h e = rw (add-one j, drop-cons s j d h, allOf, e)
-
-  pub all-stop : j < length s → t (getD s j d) ≡ false → allOf t (drop j s) ≡ false
-  unfolding allOf
-  all-stop h e = rw (drop-cons s j d h, allOf, e)
-
-pub all-end : {A : Type 0} (t : A → Bool) (s : List A) (j : ℕ) → length s ≤ j → allOf t (drop j s) ≡ true
-unfolding allOf
-all-end t s j h = rw (drop-of-length-le s h)
 
 -- ---- entries that do not fall
 
@@ -110,7 +95,7 @@ module _ (list marks : List ℕ) (mark j : ℕ) (some : 0 < j) (m : Marked list 
   front-child : getD list (j - 1) 0 < elementLimit → map cellItem (drop (j - 1) list) ≡ child (getD list (j - 1) 0) ∷ map cellItem (drop j list)
   front-child h = ap (map cellItem) front ∙ ap (λ (a : Item). a ∷ map cellItem (drop j list)) (sym (cellItem-child (getD list (j - 1) 0) h))
 
-  front-text : elementLimit ≤ getD list (j - 1) 0 → map cellItem (drop (j - 1) list) ≡ text (getD list (j - 1) 0 - 1024) ∷ map cellItem (drop j list)
+  front-text : elementLimit ≤ getD list (j - 1) 0 → map cellItem (drop (j - 1) list) ≡ text (getD list (j - 1) 0 - elementLimit) ∷ map cellItem (drop j list)
   front-text h = ap (map cellItem) front ∙ ap (λ (a : Item). a ∷ map cellItem (drop j list)) (sym (cellItem-text (getD list (j - 1) 0) h))
 
   pub marked-child : getD list (j - 1) 0 < elementLimit → (getD marks (getD list (j - 1) 0) 0 ≡ mark → ⊥)
@@ -134,7 +119,7 @@ module _ (list marks : List ℕ) (mark j : ℕ) (some : 0 < j) (m : Marked list 
       record {
         within = omega (arith, m .within);
         size = m .size;
-        once = rw (front-text h, onceIn, any-text (getD list (j - 1) 0 - 1024) (map cellItem (drop j list))) (m .once);
+        once = rw (front-text h, onceIn, any-text (getD list (j - 1) 0 - elementLimit) (map cellItem (drop j list))) (m .once);
         known = λ k l. rw (front-text h) (m .known k l);
         most = m .most;
       }

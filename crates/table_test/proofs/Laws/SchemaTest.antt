@@ -1,71 +1,71 @@
 -- The test of a schema table: the loop over its files, and a table that passes is the encoding of what it says. Assumes nothing.
-use mathlib.Core.Bool.{Bool, true, false, _&&_, and-eq-true-iff}
-use mathlib.Core.List.{List, [], _∷_, _++_}
+use mathlib.Core.Bool.{true, false, _&&_, and-eq-true-iff}
+use mathlib.Core.List.{List, [], _∷_, _++_, append-nil}
 use mathlib.Core.Path.{_≡_, refl, sym, ap, _∙_, subst}
 use Prim.Native.Nat.{ℕ, zero, suc, _+_, _*_, _≤_, _<_}
 use native.Mathlib.Nat.{add-zero}
 use native.Mathlib.Numerals.{add-one}
 use native.Mathlib.Omega.{arith}
-use borrow.Author.Tests.{eqb-true, leb-true, ltb-true}
-use lib.ListN.{length, getD, take, drop, length-drop, take-append-drop, drop-of-length-le}
+use borrow.Author.Tests.{eqb-true, leb-true, ltb-true, le-ltb, lt-ltb}
+use lib.Dec.{ltb}
+use lib.ListN.{length, getD, take, drop, length-drop, drop-of-length-le}
 use lib.Seq.{take-all, drop-drop, drop-cons, getD-take, getD-drop}
-use Rattle.tables.specs.Cells.{Each, cells, rowsOf}
-use Rattle.tables.specs.Limits.{typeLimit, groupLimit, rowLimit, fileLimit, versionLimit}
+use Rattle.tables.specs.Cells.{Each, cells, rowsOf, between}
+use Rattle.tables.specs.Limits.{typeLimit, groupLimit, rowLimit, fileLimit, versionLimit, pathLimit, nameLimit, maskLimit}
 use Rattle.tables.specs.Lists.{allOf}
 use Rattle.tables.specs.Paths.{front, pathCells}
 use Rattle.tables.specs.Records.{Group, SubElement}
-use Rattle.table_test.specs.ModelTest.{between, isZero}
-use Rattle.tables.specs.SchemaTable.{schemaSize, typesAt, groupsAt, rowsAt, filesAt, typesArea, groupsArea, rowsArea, boolNumber, boolFrom, pathLimit, typeCells, cellsType, groupCells, cellsGroup, subElementCells, cellsSubElement, fileCells, cellsFile, encodeSchema, schemaOf, GroupFits, RowFits, SizedSchema}
-use Rattle.table_test.specs.ElementsTest.{nameLimit}
-use Rattle.table_test.specs.RowsTest.{every, rowsIn, areaPasses}
-use Rattle.table_test.specs.SchemaTest.{maskLimit, pathTests, pathPasses, typeTests, typePasses, groupTests, groupPasses, rowTests, rowPasses, fileTests, filesPass, fileAreaPasses, schemaTests, isSchemaTable, TypeIn, GroupIn, RowIn, FilesIn, TestedSchema}
+use Rattle.tables.specs.SchemaTable.{schemaSize, typesAt, groupsAt, rowsAt, filesAt, typesArea, groupsArea, rowsArea, boolNumber, boolFrom, typeCells, cellsType, groupCells, cellsGroup, subElementCells, cellsSubElement, fileCells, cellsFile, encodeSchema, schemaOf, GroupFits, RowFits, SizedSchema, filesArea}
+use Rattle.tables.proofs.Laws.Scans.{all-head, all-tail}
+use Rattle.table_test.specs.RowTests.{pathTests, pathPasses}
+use Rattle.table_test.specs.AreaTest.{rowPasses, rowsIn}
+use Rattle.table_test.specs.SchemaTest.{filesAscend, schemaTests, isSchemaTable, TypeIn, GroupIn, RowIn, FilesIn, TestedSchema}
+use Rattle.table_test.specs.declared.area_test.Area.the-variants.{Types, Groups, SubElements, Files}
 use Rattle.tables.proofs.Laws.Cells.{length-rowsOf}
 use Rattle.tables.proofs.Laws.SchemaTable.{length-front, wide-type, wide-group, wide-row, wide-file, group-cells, row-cells, type-cells}
-use Rattle.table_test.proofs.Laws.RowsTest.{every-at, row-is, row-at, row-count, rest-is, area-again, area-each}
+use Rattle.table_test.proofs.Laws.RowsTest.{every-at, cells-from, row-is}
+use Rattle.table_test.proofs.Laws.AreaTest.{row-at, row-count, row-tested, area-parts, area-again, area-last, area-each}
 
 -- ---- the loop over the files
 
-module _ (n : ℕ) (s : List ℕ) (low i : ℕ) (l : i < n) where
+module _ (n : ℕ) (s : List ℕ) where
+  file-at : (i : ℕ) → i < n → getD (getD (rowsIn 2 n s) i []) 0 0 ≡ getD s (i * 2) 0
+  file-at i h =
+      ap (λ (q : List ℕ). getD q 0 0) (row-at 2 n i s h)
+      ∙ getD-take 2 (drop (i * 2) s) 0 0 (omega arith)
+      ∙ getD-drop (i * 2) s 0 0
+      ∙ ap (λ (k : ℕ). getD s k 0) (add-zero (i * 2))
+
   -- the file at i, and the files behind it
-  file-front : filesPass low (drop i (rowsIn 2 n s))
-      ≡ every (fileTests low (getD s (i * 2) 0) (getD s (i * 2 + 1) 0)) && filesPass (getD s (i * 2) 0 + 1) (drop (i + 1) (rowsIn 2 n s))
-  unfolding filesPass
-  file-front =
-      let r : List ℕ = getD (rowsIn 2 n s) i [] in
-      let f : getD r 0 0 ≡ getD s (i * 2) 0 =
-      ap (λ (q : List ℕ). getD q 0 0) (row-at 2 n i s l) ∙ getD-take 2 (drop (i * 2) s) 0 0 (omega arith) ∙ getD-drop (i * 2) s 0 0 ∙ ap (λ (k : ℕ). getD s k 0) (add-zero (i * 2))
-      in
-      let v : getD r 1 0 ≡ getD s (i * 2 + 1) 0 =
-      ap (λ (q : List ℕ). getD q 1 0) (row-at 2 n i s l) ∙ getD-take 2 (drop (i * 2) s) 1 0 (omega arith) ∙ getD-drop (i * 2) s 1 0
-      in
-      let k : suc i ≡ i + 1 = sym (add-one i) in
-      let t : filesPass low (r ∷ drop (suc i) (rowsIn 2 n s))
-      ≡ every (fileTests low (getD s (i * 2) 0) (getD s (i * 2 + 1) 0)) && filesPass (getD s (i * 2) 0 + 1) (drop (i + 1) (rowsIn 2 n s)) =
-      λ j. every (fileTests low (f j) (v j)) && filesPass (f j + 1) (drop (k j) (rowsIn 2 n s))
-      in
-      ap (filesPass low) (drop-cons (rowsIn 2 n s) i [] (rw (row-count 2 n s) l)) ∙ t
+  ascend-front : (i : ℕ) → i + 1 < n
+      → filesAscend (drop i (rowsIn 2 n s)) ≡ ltb (getD s (i * 2) 0) (getD s (i * 2 + 2) 0) && filesAscend (drop (i + 1) (rowsIn 2 n s))
+  unfolding filesAscend
+  ascend-front i h =
+      let rows : List (List ℕ) = rowsIn 2 n s in
+      let c = row-count 2 n s in
+      let a : drop i rows ≡ getD rows i [] ∷ drop (suc i) rows = drop-cons rows i [] (omega arith) in
+      let b : drop (suc i) rows ≡ getD rows (suc i) [] ∷ drop (suc (suc i)) rows = drop-cons rows (suc i) [] (omega arith) in
+      let e : suc i * 2 ≡ i * 2 + 2 = omega arith in
+      let f = file-at i (omega arith) in
+      let g : getD (getD rows (suc i) []) 0 0 ≡ getD s (i * 2 + 2) 0 = file-at (suc i) (omega arith) ∙ ap (λ (k : ℕ). getD s k 0) e in
+      rw (add-one i, a, b, f, g)
 
-  pub file-stop : every (fileTests low (getD s (i * 2) 0) (getD s (i * 2 + 1) 0)) ≡ false → filesPass low (drop i (rowsIn 2 n s)) ≡ filesPass 0 (rowsIn 2 n s)
-      → false ≡ fileAreaPasses n s
-  unfolding fileAreaPasses
-  file-stop e inv =
-      let f : filesPass 0 (rowsIn 2 n s) ≡ false =
-      sym inv ∙ file-front ∙ ap (λ (b : Bool). b && filesPass (getD s (i * 2) 0 + 1) (drop (i + 1) (rowsIn 2 n s))) e
-      in
-      ap (λ (b : Bool). b && allOf isZero (drop (n * 2) s)) (sym f)
+  pub ascend-stop : (i : ℕ) → i + 1 < n → getD s (i * 2 + 2) 0 ≤ getD s (i * 2) 0
+      → filesAscend (drop i (rowsIn 2 n s)) ≡ filesAscend (rowsIn 2 n s) → false ≡ filesAscend (rowsIn 2 n s)
+  ascend-stop i h e inv = (rw (ascend-front i h, le-ltb (getD s (i * 2) 0) (getD s (i * 2 + 2) 0) e) at inv)
 
-  pub file-more : every (fileTests low (getD s (i * 2) 0) (getD s (i * 2 + 1) 0)) ≡ true → filesPass low (drop i (rowsIn 2 n s)) ≡ filesPass 0 (rowsIn 2 n s)
-      → filesPass (getD s (i * 2) 0 + 1) (drop (i + 1) (rowsIn 2 n s)) ≡ filesPass 0 (rowsIn 2 n s)
-  file-more e inv =
-      sym (ap (λ (b : Bool). b && filesPass (getD s (i * 2) 0 + 1) (drop (i + 1) (rowsIn 2 n s))) e) ∙ sym file-front ∙ inv
+  pub ascend-more : (i : ℕ) → i + 1 < n → getD s (i * 2) 0 < getD s (i * 2 + 2) 0
+      → filesAscend (drop i (rowsIn 2 n s)) ≡ filesAscend (rowsIn 2 n s) → filesAscend (drop (i + 1) (rowsIn 2 n s)) ≡ filesAscend (rowsIn 2 n s)
+  ascend-more i h e inv = (rw (ascend-front i h, lt-ltb (getD s (i * 2) 0) (getD s (i * 2 + 2) 0) e) at inv)
 
--- r tells whether the cells behind the files are zero
-pub file-end : (n : ℕ) (s : List ℕ) (low i : ℕ) → n ≤ i → filesPass low (drop i (rowsIn 2 n s)) ≡ filesPass 0 (rowsIn 2 n s)
-    → (r : Bool) → r ≡ allOf isZero (between (n * 2) (length s) s) → r ≡ fileAreaPasses n s
-unfolding fileAreaPasses filesPass
-file-end n s low i h inv r e =
-    let f : filesPass 0 (rowsIn 2 n s) ≡ true = sym inv ∙ ap (filesPass low) (drop-of-length-le (rowsIn 2 n s) {i = i} (rw (row-count 2 n s) h)) in
-    e ∙ ap (allOf isZero) (rest-is s (n * 2)) ∙ ap (λ (b : Bool). b && allOf isZero (drop (n * 2) s)) (sym f)
+  pub ascend-end : (i : ℕ) → n ≤ i + 1 → filesAscend (drop i (rowsIn 2 n s)) ≡ filesAscend (rowsIn 2 n s) → true ≡ filesAscend (rowsIn 2 n s)
+  unfolding filesAscend
+  ascend-end i h inv = sym (few-ascend (drop i (rowsIn 2 n s)) (rw (length-drop i (rowsIn 2 n s), row-count 2 n s) (omega arith))) ∙ inv
+    where
+      few-ascend : (l : List (List ℕ)) → length l ≤ 1 → filesAscend l ≡ true
+      few-ascend [] k = refl
+      few-ascend (r ∷ []) k = refl
+      few-ascend (r ∷ q ∷ l) k = absurd (omega arith)
 
 -- ---- paths that pass
 
@@ -99,116 +99,77 @@ bool-again zero h = refl
 bool-again (suc zero) h = refl
 bool-again (suc (suc c)) h = absurd (omega arith)
 
-type-tested : (r : List ℕ) → typePasses r ≡ true → (i : ℕ) → getD (typeTests (getD r 0 0) (getD r 1 0) (getD r 2 0)) i true ≡ true
-unfolding typePasses
-type-tested r p = every-at (typeTests (getD r 0 0) (getD r 1 0) (getD r 2 0)) p
-
-group-tested : (r : List ℕ) → groupPasses r ≡ true
-    → (i : ℕ) → getD (groupTests (getD r 0 0) (getD r 1 0) (getD r 2 0) (getD r 3 0) (getD r 4 0) (getD r 5 0)) i true ≡ true
-unfolding groupPasses
-group-tested r p = every-at (groupTests (getD r 0 0) (getD r 1 0) (getD r 2 0) (getD r 3 0) (getD r 4 0) (getD r 5 0)) p
-
-row-tested : (r : List ℕ) → rowPasses r ≡ true
-    → (i : ℕ) → getD (rowTests (getD r 0 0) (getD r 1 0) (getD r 2 0) (getD r 3 0) (getD r 4 0) (getD r 5 0) (getD r 6 0) (getD r 7 0) (getD r 8 0)) i true ≡ true
-unfolding rowPasses
-row-tested r p =
-    every-at (rowTests (getD r 0 0) (getD r 1 0) (getD r 2 0) (getD r 3 0) (getD r 4 0) (getD r 5 0) (getD r 6 0) (getD r 7 0) (getD r 8 0)) p
-
-type-again : (r : List ℕ) → length r ≡ 3 → typePasses r ≡ true → typeCells (cellsType r) ≡ r
+type-again : (r : List ℕ) → length r ≡ 3 → rowPasses Types r ≡ true → typeCells (cellsType r) ≡ r
 type-again r e p =
-    let m = leb-true (getD r 0 0) 4 (type-tested r p 0) in
-    let b = leb-true (getD r 1 0) 1 (type-tested r p 1) in
+    let m = leb-true (getD r 0 0) 4 (row-tested Types r p 0) in
+    let b = leb-true (getD r 1 0) 1 (row-tested Types r p 1) in
     type-cells (getD r 0 0) (getD r 1 0) (getD r 2 0) (boolFrom (getD r 1 0)) (omega arith) (bool-again (getD r 1 0) b) ∙ sym (row-is r 3 e)
 
-group-again : (r : List ℕ) → length r ≡ 6 → groupPasses r ≡ true → groupCells (cellsGroup r) ≡ r
+group-again : (r : List ℕ) → length r ≡ 6 → rowPasses Groups r ≡ true → groupCells (cellsGroup r) ≡ r
 group-again r e p =
-    let m = leb-true (getD r 5 0) 3 (group-tested r p 3) in
+    let m = leb-true (getD r 5 0) 3 (row-tested Groups r p 3) in
     group-cells (getD r 0 0) (getD r 1 0) (getD r 2 0) (getD r 3 0) (getD r 4 0) (front (getD r 1 0 ∷ getD r 2 0 ∷ getD r 3 0 ∷ getD r 4 0 ∷ []))
-    (path-again (getD r 1 0) (getD r 2 0) (getD r 3 0) (getD r 4 0) (group-tested r p 1)) (getD r 5 0) (omega arith)
+    (path-again (getD r 1 0) (getD r 2 0) (getD r 3 0) (getD r 4 0) (row-tested Groups r p 1)) (getD r 5 0) (omega arith)
     ∙ sym (row-is r 6 e)
 
-row-again : (r : List ℕ) → length r ≡ 9 → rowPasses r ≡ true → subElementCells (cellsSubElement r) ≡ r
+row-again : (r : List ℕ) → length r ≡ 9 → rowPasses SubElements r ≡ true → subElementCells (cellsSubElement r) ≡ r
 row-again r e p =
-    let m = leb-true (getD r 7 0) 2 (row-tested r p 4) in
+    let m = leb-true (getD r 7 0) 2 (row-tested SubElements r p 4) in
     row-cells (getD r 0 0) (getD r 1 0) (getD r 2 0) (getD r 3 0) (getD r 4 0) (front (getD r 1 0 ∷ getD r 2 0 ∷ getD r 3 0 ∷ getD r 4 0 ∷ []))
-    (path-again (getD r 1 0) (getD r 2 0) (getD r 3 0) (getD r 4 0) (row-tested r p 1)) (getD r 5 0) (getD r 6 0) (getD r 7 0) (getD r 8 0) (omega arith)
+    (path-again (getD r 1 0) (getD r 2 0) (getD r 3 0) (getD r 4 0) (row-tested SubElements r p 1)) (getD r 5 0) (getD r 6 0) (getD r 7 0) (getD r 8 0) (omega arith)
     ∙ sym (row-is r 9 e)
 
-group-in : (r : List ℕ) → length r ≡ 6 → groupPasses r ≡ true → GroupIn (cellsGroup r)
+group-in : (r : List ℕ) → length r ≡ 6 → rowPasses Groups r ≡ true → GroupIn (cellsGroup r)
 group-in r e p =
-    let z : getD r 4 0 ≡ 0 = eqb-true (getD r 4 0) 0 (group-tested r p 2) in
+    let z : getD r 4 0 ≡ 0 = eqb-true (getD r 4 0) 0 (row-tested Groups r p 2) in
     let s : length (front (getD r 1 0 ∷ getD r 2 0 ∷ getD r 3 0 ∷ getD r 4 0 ∷ [])) ≤ 3 =
     subst (λ (d : ℕ). length (front (getD r 1 0 ∷ getD r 2 0 ∷ getD r 3 0 ∷ d ∷ [])) ≤ 3) (sym z) (front-short (getD r 1 0 ∷ getD r 2 0 ∷ getD r 3 0 ∷ []))
     in
-    (ltb-true (getD r 0 0) typeLimit (group-tested r p 0), path-some (getD r 1 0) (getD r 2 0) (getD r 3 0) (getD r 4 0) (group-tested r p 1), s)
+    (ltb-true (getD r 0 0) typeLimit (row-tested Groups r p 0), path-some (getD r 1 0) (getD r 2 0) (getD r 3 0) (getD r 4 0) (row-tested Groups r p 1), s)
 
-row-in : (r : List ℕ) → length r ≡ 9 → rowPasses r ≡ true → RowIn (cellsSubElement r)
+row-in : (r : List ℕ) → length r ≡ 9 → rowPasses SubElements r ≡ true → RowIn (cellsSubElement r)
 row-in r e p = (
-  ltb-true (getD r 0 0) typeLimit (row-tested r p 0),
-  path-some (getD r 1 0) (getD r 2 0) (getD r 3 0) (getD r 4 0) (row-tested r p 1),
-  leb-true (getD r 5 0) nameLimit (row-tested r p 2),
-  ltb-true (getD r 6 0) typeLimit (row-tested r p 3),
-  ltb-true 0 (getD r 8 0) (row-tested r p 5),
-  ltb-true (getD r 8 0) maskLimit (row-tested r p 6),
+  ltb-true (getD r 0 0) typeLimit (row-tested SubElements r p 0),
+  path-some (getD r 1 0) (getD r 2 0) (getD r 3 0) (getD r 4 0) (row-tested SubElements r p 1),
+  leb-true (getD r 5 0) nameLimit (row-tested SubElements r p 2),
+  ltb-true (getD r 6 0) typeLimit (row-tested SubElements r p 3),
+  ltb-true 0 (getD r 8 0) (row-tested SubElements r p 5),
+  ltb-true (getD r 8 0) maskLimit (row-tested SubElements r p 6),
 )
 
-files-in : (n low : ℕ) (s : List ℕ) → filesPass low (rowsIn 2 n s) ≡ true → FilesIn low (rowsOf 2 n cellsFile s)
-unfolding filesPass rowsOf
-files-in zero low s h = tt
-files-in (suc n) low s h =
-    let f = getD (take 2 s) 0 0 in
-    let v = getD (take 2 s) 1 0 in
-    let rest = filesPass (f + 1) (rowsIn 2 n (drop 2 s)) in
-    let t = every-at (fileTests low f v) (and-eq-true-iff (every (fileTests low f v)) rest .0 h .0) in
-    (leb-true low f (t 0), ltb-true f fileLimit (t 1), ltb-true v versionLimit (t 2), files-in n (f + 1) (drop 2 s) (and-eq-true-iff (every (fileTests low f v)) rest .0 h .1))
-
-abbrev anyRow : List ℕ → Bool
-anyRow r = true
-
-all-any : (l : List (List ℕ)) → allOf anyRow l ≡ true
-unfolding allOf
-all-any [] = refl
-all-any (r ∷ l) = all-any l
-
-file-area : (n : ℕ) (s : List ℕ) → fileAreaPasses n s ≡ true → areaPasses anyRow 2 n s ≡ true
-unfolding fileAreaPasses areaPasses
-file-area n s h =
-    ap (λ (b : Bool). b && allOf isZero (drop (n * 2) s)) (all-any (rowsIn 2 n s)) ∙ and-eq-true-iff (filesPass 0 (rowsIn 2 n s)) (allOf isZero (drop (n * 2) s)) .0 h .1
-
-file-rows : (n : ℕ) (s : List ℕ) → fileAreaPasses n s ≡ true → filesPass 0 (rowsIn 2 n s) ≡ true
-unfolding fileAreaPasses
-file-rows n s h = and-eq-true-iff (filesPass 0 (rowsIn 2 n s)) (allOf isZero (drop (n * 2) s)) .0 h .0
+-- files that pass and ascend, the first not less than low
+files-in : (n low : ℕ) (s : List ℕ) → allOf (rowPasses Files) (rowsIn 2 n s) ≡ true → filesAscend (rowsIn 2 n s) ≡ true → low ≤ getD (take 2 s) 0 0
+    → FilesIn low (rowsOf 2 n cellsFile s)
+unfolding filesAscend rowsOf
+files-in zero low s p a h = tt
+files-in (suc zero) low s p a h =
+    let t = row-tested Files (take 2 s) (all-head (rowPasses Files) (take 2 s) [] p) in
+    (h, ltb-true (getD (take 2 s) 0 0) fileLimit (t 0), ltb-true (getD (take 2 s) 1 0) versionLimit (t 1), tt)
+files-in (suc (suc n)) low s p a h =
+    let r = take 2 s in
+    let q = take 2 (drop 2 s) in
+    let rows = rowsIn 2 (suc n) (drop 2 s) in
+    let t = row-tested Files r (all-head (rowPasses Files) r rows p) in
+    let b = and-eq-true-iff (ltb (getD r 0 0) (getD q 0 0)) (filesAscend rows) .0 a in
+    let less : getD r 0 0 + 1 ≤ getD q 0 0 = rw add-one (ltb-true (getD r 0 0) (getD q 0 0) (b .0)) in (
+      h,
+      ltb-true (getD r 0 0) fileLimit (t 0),
+      ltb-true (getD r 1 0) versionLimit (t 1),
+      files-in (suc n) (getD r 0 0 + 1) (drop 2 s) (all-tail (rowPasses Files) r rows p) (b .1) less,
+    )
 
 -- ---- a table that passes
 
--- the table, cut into its areas
-areas-of : (xs : List ℕ) → length xs ≡ schemaSize
-    → getD xs 0 0 ∷ getD xs 1 0 ∷ getD xs 2 0 ∷ getD xs 3 0
-    ∷ (take 384 (drop 4 xs) ++ (take 768 (drop 388 xs) ++ (take 4608 (drop 1156 xs) ++ take 128 (drop 5764 xs)))) ≡ xs
-areas-of xs h =
-    let e4 : take 128 (drop 5764 xs) ≡ drop 5764 xs = take-all 128 (drop 5764 xs) (rw (length-drop 5764 xs) (omega arith)) in
-    let e3 : take 4608 (drop 1156 xs) ++ drop 5764 xs ≡ drop 1156 xs =
-    ap (λ (q : List ℕ). take 4608 (drop 1156 xs) ++ q) (sym (drop-drop 4608 1156 xs)) ∙ take-append-drop 4608 (drop 1156 xs)
-    in
-    let e2 : take 768 (drop 388 xs) ++ drop 1156 xs ≡ drop 388 xs =
-    ap (λ (q : List ℕ). take 768 (drop 388 xs) ++ q) (sym (drop-drop 768 388 xs)) ∙ take-append-drop 768 (drop 388 xs)
-    in
-    let e1 : take 384 (drop 4 xs) ++ drop 388 xs ≡ drop 4 xs =
-    ap (λ (q : List ℕ). take 384 (drop 4 xs) ++ q) (sym (drop-drop 384 4 xs)) ∙ take-append-drop 384 (drop 4 xs)
-    in
-    let d1 : drop 1 xs ≡ getD xs 1 0 ∷ drop 2 xs = drop-cons xs 1 0 (omega arith) in
-    let d2 : drop 2 xs ≡ getD xs 2 0 ∷ drop 3 xs = drop-cons xs 2 0 (omega arith) in
-    let d3 : drop 3 xs ≡ getD xs 3 0 ∷ drop 4 xs = drop-cons xs 3 0 (omega arith) in
-    rw (e4, e3, e2, e1, ← d3, ← d2, ← d1) (sym (drop-cons xs 0 0 (omega arith)))
-
-groups-place : (xs : List ℕ) → drop typesArea (drop typesAt xs) ≡ drop groupsAt xs
-groups-place xs = drop-drop typesArea typesAt xs
-
-rows-place : (xs : List ℕ) → drop groupsArea (drop typesArea (drop typesAt xs)) ≡ drop rowsAt xs
-rows-place xs = ap (drop groupsArea) (groups-place xs) ∙ drop-drop groupsArea groupsAt xs
-
-files-place : (xs : List ℕ) → drop rowsArea (drop groupsArea (drop typesArea (drop typesAt xs))) ≡ drop filesAt xs
-files-place xs = ap (drop rowsArea) (rows-place xs) ∙ drop-drop rowsArea rowsAt xs
+-- what it says, each area from its place
+schema-read : (xs : List ℕ) → schemaOf xs
+    ≡ record {
+      types = rowsOf 3 (getD xs 0 0) cellsType (drop typesAt xs);
+      groups = rowsOf 6 (getD xs 1 0) cellsGroup (drop groupsAt xs);
+      subElements = rowsOf 9 (getD xs 2 0) cellsSubElement (drop rowsAt xs);
+      files = rowsOf 2 (getD xs 3 0) cellsFile (drop filesAt xs);
+    }
+unfolding schemaOf
+schema-read xs = rw (drop-drop typesArea typesAt xs, drop-drop groupsArea groupsAt xs, drop-drop rowsArea rowsAt xs)
 
 module _ (xs : List ℕ) (h : isSchemaTable xs ≡ true) where
   tested : (i : ℕ) → getD (schemaTests xs) i true ≡ true
@@ -218,101 +179,56 @@ module _ (xs : List ℕ) (h : isSchemaTable xs ≡ true) where
   pub schema-length : length xs ≡ schemaSize
   schema-length = eqb-true (length xs) schemaSize (tested 0)
 
-  few-types : getD xs 0 0 ≤ typeLimit
-  few-types = leb-true (getD xs 0 0) typeLimit (tested 1)
+  groups-each : (P : Group → Type 0) → ((r : List ℕ) → length r ≡ 6 → rowPasses Groups r ≡ true → P (cellsGroup r)) → Each P (schemaOf xs .groups)
+  groups-each P f = rw (schema-read xs) (area-each Groups groupsAt (getD xs 1 0) xs (omega (arith, schema-length)) (tested 3) cellsGroup P f)
 
-  few-groups : getD xs 1 0 ≤ groupLimit
-  few-groups = leb-true (getD xs 1 0) groupLimit (tested 2)
-
-  few-rows : getD xs 2 0 ≤ rowLimit
-  few-rows = leb-true (getD xs 2 0) rowLimit (tested 3)
-
-  few-files : getD xs 3 0 ≤ fileLimit
-  few-files = leb-true (getD xs 3 0) fileLimit (tested 4)
-
-  types-again : cells 3 typeLimit typeCells (rowsOf 3 (getD xs 0 0) cellsType (drop typesAt xs)) ≡ take 384 (drop 4 xs)
-  types-again =
-      area-again 3 typeCells wide-type cellsType typePasses typesAt typeLimit (getD xs 0 0) xs (omega (arith, schema-length)) few-types (tested 5) type-again
-
-  groups-again : cells 6 groupLimit groupCells (rowsOf 6 (getD xs 1 0) cellsGroup (drop groupsAt xs)) ≡ take 768 (drop 388 xs)
-  groups-again =
-      area-again 6 groupCells wide-group cellsGroup groupPasses groupsAt groupLimit (getD xs 1 0) xs (omega (arith, schema-length)) few-groups (tested 6) group-again
-
-  rows-again : cells 9 rowLimit subElementCells (rowsOf 9 (getD xs 2 0) cellsSubElement (drop rowsAt xs)) ≡ take 4608 (drop 1156 xs)
-  rows-again =
-      area-again 9 subElementCells wide-row cellsSubElement rowPasses rowsAt rowLimit (getD xs 2 0) xs (omega (arith, schema-length)) few-rows (tested 7) row-again
-
-  files-again : cells 2 fileLimit fileCells (rowsOf 2 (getD xs 3 0) cellsFile (drop filesAt xs)) ≡ take 128 (drop 5764 xs)
-  files-again =
-      area-again 2 fileCells wide-file cellsFile anyRow filesAt fileLimit (getD xs 3 0) xs (omega (arith, schema-length)) few-files
-      (file-area (getD xs 3 0) (between filesAt schemaSize xs) (tested 8)) (λ r e p. sym (row-is r 2 e))
+  rows-each : (P : SubElement → Type 0) → ((r : List ℕ) → length r ≡ 9 → rowPasses SubElements r ≡ true → P (cellsSubElement r)) → Each P (schemaOf xs .subElements)
+  rows-each P f = rw (schema-read xs) (area-each SubElements rowsAt (getD xs 2 0) xs (omega (arith, schema-length)) (tested 4) cellsSubElement P f)
 
   types-each : Each TypeIn (schemaOf xs .types)
-  unfolding schemaOf
   types-each =
-      area-each 3 typeCells wide-type cellsType typePasses typesAt typeLimit (getD xs 0 0) xs (omega (arith, schema-length)) few-types (tested 5) TypeIn
-      (λ r e p. ltb-true (getD r 2 0) maskLimit (type-tested r p 2))
+      rw (schema-read xs)
+      (area-each Types typesAt (getD xs 0 0) xs (omega (arith, schema-length)) (tested 2) cellsType TypeIn (λ r e p. ltb-true (getD r 2 0) maskLimit (row-tested Types r p 2)))
 
-  groups-each : (P : Group → Type 0) → ((r : List ℕ) → length r ≡ 6 → groupPasses r ≡ true → P (cellsGroup r)) → Each P (schemaOf xs .groups)
-  unfolding schemaOf
-  groups-each P f =
-      subst (λ (l : List ℕ). Each P (rowsOf 6 (getD xs 1 0) cellsGroup l)) (sym (groups-place xs))
-      (area-each 6 groupCells wide-group cellsGroup groupPasses groupsAt groupLimit (getD xs 1 0) xs (omega (arith, schema-length)) few-groups (tested 6) P f)
+  files-each : FilesIn 0 (schemaOf xs .files)
+  files-each =
+      let n = getD xs 3 0 in
+      let area : List ℕ = between filesAt schemaSize xs in
+      let e : area ≡ drop filesAt xs = take-all filesArea (drop filesAt xs) (rw (length-drop filesAt xs) (omega (arith, schema-length))) in
+      rw (schema-read xs, ← e) (files-in n 0 area (area-parts Files n area (tested 1) .1) (tested 5) (omega arith))
 
-  rows-each : (P : SubElement → Type 0) → ((r : List ℕ) → length r ≡ 9 → rowPasses r ≡ true → P (cellsSubElement r)) → Each P (schemaOf xs .subElements)
-  unfolding schemaOf
-  rows-each P f =
-      subst (λ (l : List ℕ). Each P (rowsOf 9 (getD xs 2 0) cellsSubElement l)) (sym (rows-place xs))
-      (area-each 9 subElementCells wide-row cellsSubElement rowPasses rowsAt rowLimit (getD xs 2 0) xs (omega (arith, schema-length)) few-rows (tested 7) P f)
-
-  files-ascend : FilesIn 0 (schemaOf xs .files)
-  unfolding schemaOf
-  files-ascend =
-      let e : between filesAt schemaSize xs ≡ drop filesAt xs = take-all 128 (drop filesAt xs) (rw (length-drop filesAt xs) (omega (arith, schema-length))) in
-      subst (λ (l : List ℕ). FilesIn 0 (rowsOf 2 (getD xs 3 0) cellsFile l)) (e ∙ sym (files-place xs))
-      (files-in (getD xs 3 0) 0 (between filesAt schemaSize xs) (file-rows (getD xs 3 0) (between filesAt schemaSize xs) (tested 8)))
-
-  type-length : length (schemaOf xs .types) ≡ getD xs 0 0
-  unfolding schemaOf
-  type-length = length-rowsOf 3 typeCells wide-type cellsType (getD xs 0 0) (drop typesAt xs)
-
-  group-length : length (schemaOf xs .groups) ≡ getD xs 1 0
-  unfolding schemaOf
-  group-length = length-rowsOf 6 groupCells wide-group cellsGroup (getD xs 1 0) (drop typesArea (drop typesAt xs))
-
-  row-length : length (schemaOf xs .subElements) ≡ getD xs 2 0
-  unfolding schemaOf
-  row-length = length-rowsOf 9 subElementCells wide-row cellsSubElement (getD xs 2 0) (drop groupsArea (drop typesArea (drop typesAt xs)))
-
-  file-length : length (schemaOf xs .files) ≡ getD xs 3 0
-  unfolding schemaOf
-  file-length = length-rowsOf 2 fileCells wide-file cellsFile (getD xs 3 0) (drop rowsArea (drop groupsArea (drop typesArea (drop typesAt xs))))
+  -- the areas, one behind the other
+  areas : drop typesAt xs
+      ≡ cells 3 typeLimit typeCells (rowsOf 3 (getD xs 0 0) cellsType (drop typesAt xs))
+      ++ (cells 6 groupLimit groupCells (rowsOf 6 (getD xs 1 0) cellsGroup (drop groupsAt xs))
+      ++ (cells 9 rowLimit subElementCells (rowsOf 9 (getD xs 2 0) cellsSubElement (drop rowsAt xs))
+      ++ cells 2 fileLimit fileCells (rowsOf 2 (getD xs 3 0) cellsFile (drop filesAt xs))))
+  areas =
+      area-again Types typesAt (getD xs 0 0) xs (omega (arith, schema-length)) (tested 2) cellsType typeCells wide-type type-again
+      (area-again Groups groupsAt (getD xs 1 0) xs (omega (arith, schema-length)) (tested 3) cellsGroup groupCells wide-group group-again
+      (area-again SubElements rowsAt (getD xs 2 0) xs (omega (arith, schema-length)) (tested 4) cellsSubElement subElementCells wide-row row-again
+      (area-last Files filesAt (getD xs 3 0) xs (omega (arith, schema-length)) (tested 1) cellsFile fileCells wide-file (λ r e p. sym (row-is r 2 e)) schema-length)))
 
   raw : xs ≡ encodeSchema (schemaOf xs)
-  unfolding encodeSchema schemaOf
+  unfolding encodeSchema
   raw =
-      let a = type-length in
-      let b = group-length in
-      let c = row-length in
-      let d = file-length in
-      let p = types-again in
-      let q = ap (λ (l : List ℕ). cells 6 groupLimit groupCells (rowsOf 6 (getD xs 1 0) cellsGroup l)) (groups-place xs) ∙ groups-again in
-      let r = ap (λ (l : List ℕ). cells 9 rowLimit subElementCells (rowsOf 9 (getD xs 2 0) cellsSubElement l)) (rows-place xs) ∙ rows-again in
-      let s = ap (λ (l : List ℕ). cells 2 fileLimit fileCells (rowsOf 2 (getD xs 3 0) cellsFile l)) (files-place xs) ∙ files-again in
-      let t : encodeSchema (schemaOf xs)
-      ≡ getD xs 0 0 ∷ getD xs 1 0 ∷ getD xs 2 0 ∷ getD xs 3 0
-      ∷ (take 384 (drop 4 xs) ++ (take 768 (drop 388 xs) ++ (take 4608 (drop 1156 xs) ++ take 128 (drop 5764 xs)))) =
-      λ i. a i ∷ b i ∷ c i ∷ d i ∷ (p i ++ (q i ++ (r i ++ s i)))
-      in
-      sym (t ∙ areas-of xs schema-length)
+      let a = length-rowsOf 3 typeCells wide-type cellsType (getD xs 0 0) (drop typesAt xs) in
+      let b = length-rowsOf 6 groupCells wide-group cellsGroup (getD xs 1 0) (drop groupsAt xs) in
+      let c = length-rowsOf 9 subElementCells wide-row cellsSubElement (getD xs 2 0) (drop rowsAt xs) in
+      let d = length-rowsOf 2 fileCells wide-file cellsFile (getD xs 3 0) (drop filesAt xs) in
+      rw (schema-read xs, a, b, c, d, ← areas) (cells-from xs 0 4 (omega (arith, schema-length)))
 
   sized : SizedSchema (schemaOf xs)
   sized =
+      let few-types = area-parts Types (getD xs 0 0) (between typesAt groupsAt xs) (tested 2) .0 in
+      let few-groups = area-parts Groups (getD xs 1 0) (between groupsAt rowsAt xs) (tested 3) .0 in
+      let few-rows = area-parts SubElements (getD xs 2 0) (between rowsAt filesAt xs) (tested 4) .0 in
+      let few-files = area-parts Files (getD xs 3 0) (between filesAt schemaSize xs) (tested 1) .0 in
       record {
-        typeCount = rw type-length few-types;
-        groupCount = rw group-length few-groups;
-        rowCount = rw row-length few-rows;
-        fileCount = rw file-length few-files;
+        typeCount = rw (schema-read xs, length-rowsOf 3 typeCells wide-type cellsType (getD xs 0 0) (drop typesAt xs)) few-types;
+        groupCount = rw (schema-read xs, length-rowsOf 6 groupCells wide-group cellsGroup (getD xs 1 0) (drop groupsAt xs)) few-groups;
+        rowCount = rw (schema-read xs, length-rowsOf 9 subElementCells wide-row cellsSubElement (getD xs 2 0) (drop rowsAt xs)) few-rows;
+        fileCount = rw (schema-read xs, length-rowsOf 2 fileCells wide-file cellsFile (getD xs 3 0) (drop filesAt xs)) few-files;
         groupPaths = groups-each GroupFits (λ r e p. length-front (getD r 1 0 ∷ getD r 2 0 ∷ getD r 3 0 ∷ getD r 4 0 ∷ []));
         rowPaths = rows-each RowFits (λ r e p. length-front (getD r 1 0 ∷ getD r 2 0 ∷ getD r 3 0 ∷ getD r 4 0 ∷ []));
       }
@@ -324,5 +240,5 @@ tested-schema xs h =
       types = types-each xs h;
       groups = groups-each xs h GroupIn group-in;
       rows = rows-each xs h RowIn row-in;
-      files = files-ascend xs h;
+      files = files-each xs h;
     }

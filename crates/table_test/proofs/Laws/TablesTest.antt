@@ -22,10 +22,10 @@ use Rattle.table_test.specs.TablesTest.{itemDeeper, listsDeeper, tablesT
 use Rattle.tables.proofs.Laws.Cells.{each-getD}
 use Rattle.tables.proofs.Laws.ElementsTable.{element-count, text-count}
 use Rattle.tables.proofs.Laws.SchemaTable.{type-count}
-use Rattle.table_test.proofs.Laws.Scans.{all-more, all-stop}
+use Rattle.tables.proofs.Laws.Scans.{all-more, all-stop, all-at}
 use Rattle.tables.proofs.Laws.ModelTable.{read-count, item-below, listed-below}
 use Rattle.table_test.proofs.Laws.ModelTest as modelTest
-use Rattle.table_test.proofs.Laws.RowsTest.{every-at, all-at}
+use Rattle.table_test.proofs.Laws.RowsTest.{every-at}
 use Rattle.table_test.proofs.Laws.LogTest.{tested-log}
 use Rattle.table_test.proofs.Laws.ElementsTest.{few-elements, few-texts, tested-elements}
 use Rattle.table_test.proofs.Laws.SchemaTest.{tested-schema}
@@ -124,7 +124,7 @@ tested-tables size schema elements model log h =
     let types = getD schema 0 0 in
     let e : isElementsTable types size elements ≡ true = t 1 in
     let m : isModelTable (getD elements 1 0) model ≡ true = t 2 in
-    let c : getD model 0 0 ≡ getD elements 0 0 = eqb-true (getD model 0 0) (getD elements 0 0) (t 4) in
+    let c : getD model 0 0 ≡ getD elements 0 0 = eqb-true (getD model 0 0) (getD elements 0 0) (t 3) in
     let et = tested-elements types size elements e in
     let mt : TestedModel (getD elements 1 0) model = modelTest.tested (getD elements 1 0) model (few-texts types size elements e) m in
     let ds : List ℕ = elementsOf elements .depths in
@@ -132,7 +132,7 @@ tested-tables size schema elements model log h =
       schemaTested = tested-schema schema s;
       elementsTested = subst (λ (k : ℕ). TestedElements k size elements) (type-count schema (tested-schema schema s .good)) et;
       modelTested = subst (λ (k : ℕ). TestedModel k model) (text-count elements (et .good)) mt;
-      logTested = subst (λ (k : ℕ). TestedLog k log) (element-count elements (et .good)) (tested-log (getD elements 0 0) log (few-elements types size elements e) (t 3));
+      logTested = subst (λ (k : ℕ). TestedLog k log) (element-count elements (et .good)) (tested-log (getD elements 0 0) log (few-elements types size elements e) (t 4));
       same = same-count types size elements e model m c;
       deeper = λ o i x l f.
           let k : o < length (modelOf model .lists) = rw (mt .good .sized .lists) (listed-below model (mt .good) o i l) in

@@ -1,13 +1,13 @@
 -- Laws of cells: a store and a read in an area of a table, the area's length, a row stored behind the last, and reading rows back.
 -- Assumes nothing.
 use mathlib.Core.Path.{_≡_, refl, sym, ap, _∙_, subst}
-use mathlib.Core.List.{List, [], _∷_, _++_, append-assoc, append-nil}
+use mathlib.Core.List.{List, [], _∷_, _++_, map, reverse, reverse-cons, append-assoc, append-nil}
 use Prim.Native.Nat.{ℕ, zero, suc, _+_, _*_, _-_, _≤_, _<_}
 use native.Mathlib.Nat.{zero-add, suc-add, add-suc, add-zero, suc-mul, zero-mul, le-of-suc-le-suc, not-suc-le-zero, mul-le-mul-right, suc-sub-suc}
 use native.Mathlib.Numerals.{add-one}
 use native.Mathlib.Omega.{arith}
 use lib.ListN.{length, set, getD, take, drop, replicate, length-append, length-replicate, length-set, List·getD-append, List·getD-eq-default, getD-replicate, replicate-append-replicate, take-append-drop}
-use lib.Seq.{set-append-left, take-at, drop-at, drop-drop, take-add, length-take-le}
+use lib.Seq.{set-append-left, take-all, take-at, drop-at, drop-drop, take-add, length-take-le}
 use borrow.Rule.Slice.PartMut.{midOf, putMid}
 use Rattle.tables.specs.Cells.{padded, puts, Each, rowCells, cells, rowsOf, rowAt}
 
@@ -64,6 +64,12 @@ puts-front (x ∷ xs) ys [] e = absurd (not-suc-le-zero (subst (λ (n : ℕ). su
 puts-front (x ∷ xs) ys (v ∷ vs) e =
     let h : length xs ≡ length vs = omega arith in
     puts-behind (v ∷ []) (xs ++ ys) 1 0 vs refl ∙ ap (λ (r : List ℕ). v ∷ r) (puts-front xs ys vs h)
+
+-- the last k of the first j + k
+drop-part : (xs : List ℕ) (j k n : ℕ) → j + k ≡ n → drop j (take n xs) ≡ take k (drop j xs)
+drop-part xs zero k n e = rw (← e, zero-add k)
+drop-part [] (suc j) k n e = rw (← e, suc-add j k) (sym (take-all k [] (omega arith)))
+drop-part (x ∷ xs) (suc j) k n e = rw (← e, suc-add j k) (drop-part xs j k (j + k) refl)
 
 -- ---- a list, then zeros
 
@@ -178,6 +184,23 @@ module _ {A : Type 0} where
   each-imp P Q [] f h = tt
   each-imp P Q (x ∷ l) f h = (f x (h .0), each-imp P Q l f (h .1))
 
+  pub each-both : (P Q : A → Type 0) (l : List A) → Each P l → Each Q l → Each (λ (a : A). P a × Q a) l
+  each-both P Q [] h k = tt
+  each-both P Q (x ∷ l) h k = ((h .0, k .0), each-both P Q l (h .1) (k .1))
+
+  pub each-take : (P : A → Type 0) (n : ℕ) (l : List A) → Each P l → Each P (take n l)
+  each-take P zero l h = tt
+  each-take P (suc n) [] h = tt
+  each-take P (suc n) (x ∷ l) h = (h .0, each-take P n l (h .1))
+
+  pub each-reverse : (P : A → Type 0) (l : List A) → Each P l → Each P (reverse l)
+  each-reverse P [] h = tt
+  each-reverse P (x ∷ l) h = rw (reverse-cons x l) (each-append P (reverse l) (x ∷ []) (each-reverse P l (h .1)) (h .0, tt))
+
+pub each-map : {A B : Type 0} (P : B → Type 0) (f : A → B) (l : List A) → Each (λ (a : A). P (f a)) l → Each P (map f l)
+each-map P f [] h = tt
+each-map P f (x ∷ l) h = (h .0, each-map P f l (h .1))
+
 -- ---- rows of width w
 
 module _ {A : Type 0} (w : ℕ) (enc : A → List ℕ) (wide : (a : A) → length (enc a) ≡ w) where
@@ -199,17 +222,29 @@ module _ {A : Type 0} (w : ℕ) (enc : A → List ℕ) (wide : (a : A) → lengt
       rw (at-next i j, append-assoc)
       (getD-behind (enc a) (rowCells enc l ++ r) w (i * w + j) 0 (wide a) ∙ getD-rows-then l r i j d (le-of-suc-le-suc h) k)
 
-  -- a store in a row: the row with the value at that field takes its place
-  set-rows-then : (l : List A) (r : List ℕ) (i j v : ℕ) (d b : A) → i < length l → j < w → enc b ≡ set (enc (getD l i d)) j v
-      → set (rowCells enc l ++ r) (i * w + j) v ≡ rowCells enc (set l i b) ++ r
+  -- row i
+  row-then : (l : List A) (r : List ℕ) (i : ℕ) (d : A) → i < length l → take w (drop (i * w) (rowCells enc l ++ r)) ≡ enc (getD l i d)
   unfolding rowCells
-  set-rows-then [] r i j v d b h k e = absurd (not-suc-le-zero h)
-  set-rows-then (a ∷ l) r zero j v d b h k e =
-      rw (zero-mul w, zero-add j, append-assoc, append-assoc, e) (set-append-left (enc a) _ j v (rw (wide a) k))
-  set-rows-then (a ∷ l) r (suc i) j v d b h k e =
-      rw (at-next i j, append-assoc, append-assoc)
-      (set-behind (enc a) (rowCells enc l ++ r) w (i * w + j) v (wide a)
-      ∙ ap (λ (s : List ℕ). enc a ++ s) (set-rows-then l r i j v d b (le-of-suc-le-suc h) k e))
+  row-then [] r i d h = absurd (not-suc-le-zero h)
+  row-then (a ∷ l) r zero d h = rw (zero-mul w, append-assoc) (take-at (enc a) (rowCells enc l ++ r) w (wide a))
+  row-then (a ∷ l) r (suc i) d h =
+      let e : suc i * w ≡ w + i * w = rw (suc-mul i w) (omega arith) in
+      rw (e, ← drop-drop (i * w) w ((enc a ++ rowCells enc l) ++ r), append-assoc, drop-at (enc a) (rowCells enc l ++ r) w (wide a))
+      (row-then l r i d (le-of-suc-le-suc h))
+
+  -- another row stored over row i
+  put-row-then : (l : List A) (r : List ℕ) (i : ℕ) (b : A) → i < length l
+      → puts (rowCells enc l ++ r) (i * w) (enc b) ≡ rowCells enc (set l i b) ++ r
+  unfolding rowCells
+  put-row-then [] r i b h = absurd (not-suc-le-zero h)
+  put-row-then (a ∷ l) r zero b h =
+      rw (zero-mul w, append-assoc (enc a) (rowCells enc l) r, append-assoc (enc b) (rowCells enc l) r)
+      (puts-front (enc a) (rowCells enc l ++ r) (enc b) (wide a ∙ sym (wide b)))
+  put-row-then (a ∷ l) r (suc i) b h =
+      let e : suc i * w ≡ w + i * w = rw (suc-mul i w) (omega arith) in
+      rw (e, append-assoc (enc a) (rowCells enc l) r, append-assoc (enc a) (rowCells enc (set l i b)) r)
+      (puts-behind (enc a) (rowCells enc l ++ r) w (i * w) (enc b) (wide a)
+      ∙ ap (λ (s : List ℕ). enc a ++ s) (put-row-then l r i b (le-of-suc-le-suc h)))
 
   pub rows-append : (l : List A) (b : A) → rowCells enc (l ++ (b ∷ [])) ≡ rowCells enc l ++ enc b
   unfolding rowCells
@@ -231,11 +266,14 @@ module _ {A : Type 0} (w : ℕ) (enc : A → List ℕ) (wide : (a : A) → lengt
   unfolding cells padded
   getD-cells room l i j d h k = getD-rows-then l _ i j d h k
 
-  pub set-cells : (room : ℕ) (l : List A) (i j v : ℕ) (d b : A) → i < length l → j < w → enc b ≡ set (enc (getD l i d)) j v
-      → set (cells w room enc l) (i * w + j) v ≡ cells w room enc (set l i b)
+  pub rowAt-cells : (room : ℕ) (l : List A) (i : ℕ) (d : A) → i < length l → rowAt w i (cells w room enc l) ≡ enc (getD l i d)
   unfolding cells padded
-  set-cells room l i j v d b h k e =
-      rw (length-rows (set l i b), length-set l i b, ← length-rows l) (set-rows-then l _ i j v d b h k e)
+  rowAt-cells room l i d h = row-then l _ i d h
+
+  pub put-cells : (room : ℕ) (l : List A) (i : ℕ) (b : A) → i < length l
+      → puts (cells w room enc l) (i * w) (enc b) ≡ cells w room enc (set l i b)
+  unfolding cells padded
+  put-cells room l i b h = rw (length-rows (set l i b), length-set l i b, ← length-rows l) (put-row-then l _ i b h)
 
   -- a row stored behind the last one
   pub puts-cells : (room : ℕ) (l : List A) (b : A) → length l < room
@@ -286,6 +324,12 @@ module _ {A : Type 0} (w : ℕ) (enc : A → List ℕ) (wide : (a : A) → lengt
       in
       puts-inside p (cells w room enc l) q n (length l * w) (enc b) e f ∙ ap (λ (r : List ℕ). p ++ (r ++ q)) (puts-cells room l b h)
 
+  -- m is the count, vs the row's cells, and ys the table xs with them behind the last row
+  pub appended : (xs p q ys vs : List ℕ) (n room m : ℕ) (l : List A) (b : A) → xs ≡ p ++ (cells w room enc l ++ q) → length p ≡ n → length l < room
+      → m ≡ length l → enc b ≡ vs → ys ≡ puts xs (n + m * w) vs → ys ≡ p ++ (cells w room enc (l ++ (b ∷ [])) ++ q)
+  appended xs p q ys vs n room m l b x e h c v y =
+      rw (y, c, ← v) (ap (λ (z : List ℕ). puts z (n + length l * w) (enc b)) x ∙ append-row p q n room l b e h)
+
   -- the last row cleared
   pub clear-row : (p q : List ℕ) (n room : ℕ) (l : List A) (b : A) → length p ≡ n → length l < room
       → puts (p ++ (cells w room enc (l ++ (b ∷ [])) ++ q)) (n + length l * w) (replicate w 0) ≡ p ++ (cells w room enc l ++ q)
@@ -303,10 +347,29 @@ module _ {A : Type 0} (w : ℕ) (enc : A → List ℕ) (wide : (a : A) → lengt
       → getD (p ++ cells w room enc l) (n + (i * w + j)) 0 ≡ getD (enc (getD l i d)) j 0
   read-last p n room l i j d e s h k = rw (append-nil (cells w room enc l)) at (read-row p [] n room l i j d e s h k)
 
+  -- the last k cells of row i
+  pub part-last : (p : List ℕ) (n room : ℕ) (l : List A) (i j k : ℕ) (d : A) → length p ≡ n → i < length l → j + k ≡ w
+      → take k (drop (n + (i * w + j)) (p ++ cells w room enc l)) ≡ drop j (enc (getD l i d))
+  part-last p n room l i j k d e h f =
+      let ys = cells w room enc l in
+      rw (← drop-drop (i * w + j) n (p ++ ys), drop-at p ys n e, ← drop-drop j (i * w) ys)
+      (sym (drop-part (drop (i * w) ys) j k w f) ∙ ap (drop j) (rowAt-cells room l i d h))
+
+  -- another row stored over row i
+  pub put-last : (p : List ℕ) (n room : ℕ) (l : List A) (i : ℕ) (b : A) → length p ≡ n → i < length l
+      → puts (p ++ cells w room enc l) (n + i * w) (enc b) ≡ p ++ cells w room enc (set l i b)
+  put-last p n room l i b e h =
+      puts-behind p (cells w room enc l) n (i * w) (enc b) e ∙ ap (λ (r : List ℕ). p ++ r) (put-cells room l i b h)
+
   pub append-last : (p : List ℕ) (n room : ℕ) (l : List A) (b : A) → length p ≡ n → length l < room
       → puts (p ++ cells w room enc l) (n + length l * w) (enc b) ≡ p ++ cells w room enc (l ++ (b ∷ []))
   append-last p n room l b e h =
       rw (append-nil (cells w room enc l), append-nil (cells w room enc (l ++ (b ∷ [])))) at (append-row p [] n room l b e h)
+
+  pub appended-last : (xs p ys vs : List ℕ) (n room m : ℕ) (l : List A) (b : A) → xs ≡ p ++ cells w room enc l → length p ≡ n → length l < room
+      → m ≡ length l → enc b ≡ vs → ys ≡ puts xs (n + m * w) vs → ys ≡ p ++ cells w room enc (l ++ (b ∷ []))
+  appended-last xs p ys vs n room m l b x e h c v y =
+      rw (y, c, ← v) (ap (λ (z : List ℕ). puts z (n + length l * w) (enc b)) x ∙ append-last p n room l b e h)
 
   pub clear-last : (p : List ℕ) (n room : ℕ) (l : List A) (b : A) → length p ≡ n → length l < room
       → puts (p ++ cells w room enc (l ++ (b ∷ []))) (n + length l * w) (replicate w 0) ≡ p ++ cells w room enc l

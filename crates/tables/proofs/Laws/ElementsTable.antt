@@ -1,7 +1,7 @@
 -- Laws of the elements' table: reading it back, its counts and rows, an element, a text, a tree added. Assumes nothing.
 use mathlib.Core.Bool.{Bool, true, false, cond}
 use mathlib.Core.Path.{_≡_, refl, sym, ap, _∙_}
-use mathlib.Core.List.{List, [], _∷_, _++_, map, append-assoc}
+use mathlib.Core.List.{List, [], _∷_, _++_, map, append-assoc, append-nil}
 use Prim.Native.Nat.{ℕ, zero, suc, _+_, _*_, _-_, _/_, _%_, _≤_, _<_}
 use native.Mathlib.Nat.{not-suc-le-zero, div-add-mod', mod-lt, suc-inj}
 use native.Mathlib.Numerals.{add-one}
@@ -11,21 +11,21 @@ use lib.ListN.{length, getD, set, drop, length-append, List·getD-map}
 use lib.Seq.{drop-at}
 use borrow.Author.Tests.{ne-eqb}
 use Rattle.tables.specs.Cells.{cells, rowsOf, puts, Each}
-use Rattle.tables.specs.Limits.{elementLimit, itemLimit, fileLimit}
+use Rattle.tables.specs.Limits.{elementLimit, itemLimit, fileLimit, stringLimit}
 use Rattle.tables.specs.Records.{Element, Name, TypeNumber, Place, Text, enumNumber, string, wholeNumber, float, Tree, Elements, addElement, addText, addTree}
 use Rattle.tables.specs.Texts.{textKind, textValue, textFrom}
-use Rattle.tables.specs.ElementsTable.{elementsSize, elementsAt, textsAt, treesAt, elementsArea, textsArea, ElementRow, elementRows, elementCells, cellsElement, textCells, cellsText, treeCells, cellsTree, noTree, encodeElements, elementsOf, TextFits, SizedElements, GoodElements, HoldsElements}
-use Rattle.tables.proofs.Laws.Cells.{length-cells, cells-back, last-back, each-all, each-imp, each-append, read-row, read-last, append-row, append-last}
+use Rattle.tables.specs.ElementsTable.{elementsSize, elementsAt, textsAt, treesAt, elementsArea, textsArea, treesArea, elementWidth, textWidth, treeWidth, ElementRow, elementRows, elementCells, cellsElement, textCells, cellsText, treeCells, cellsTree, noTree, encodeElements, elementsOf, TextFits, SizedElements, GoodElements, HoldsElements}
+use Rattle.tables.proofs.Laws.Cells.{length-cells, cells-back, last-back, each-all, each-imp, each-append, read-row, read-last, appended, appended-last}
 
 -- ---- rows
 
-abbrev pub wide-element : (r : ElementRow) → length (elementCells r) ≡ 3
+abbrev pub wide-element : (r : ElementRow) → length (elementCells r) ≡ elementWidth
 wide-element r = refl
 
-abbrev pub wide-text : (t : Text) → length (textCells t) ≡ 2
+abbrev pub wide-text : (t : Text) → length (textCells t) ≡ textWidth
 wide-text t = refl
 
-abbrev pub wide-tree : (t : Tree) → length (treeCells t) ≡ 2
+abbrev pub wide-tree : (t : Tree) → length (treeCells t) ≡ treeWidth
 wide-tree t = refl
 
 -- a text that fits is what its kind and value say
@@ -33,8 +33,8 @@ pub text-back : (t : Text) → TextFits t → textFrom (textKind t) (textValue t
 unfolding textFrom textKind textValue
 text-back (enumNumber n) h = refl
 text-back (string p) h =
-    let e : (p .start * 65536 + p .size) / 65536 ≡ p .start = omega arith in
-    let f : (p .start * 65536 + p .size) % 65536 ≡ p .size = omega arith in
+    let e : (p .start * stringLimit + p .size) / stringLimit ≡ p .start = omega arith in
+    let f : (p .start * stringLimit + p .size) % stringLimit ≡ p .size = omega arith in
     λ i. string (record { start = e i; size = f i })
 text-back (wholeNumber n) h = refl
 text-back (float b) h = refl
@@ -43,7 +43,7 @@ text-back (float b) h = refl
 pub text-again : (k v : ℕ) → k < 4 → textCells (textFrom k v) ≡ k ∷ v ∷ []
 unfolding textFrom textKind textValue
 text-again zero v h = refl
-text-again (suc zero) v h = ap (λ (x : ℕ). 1 ∷ x ∷ []) (div-add-mod' v 65536)
+text-again (suc zero) v h = ap (λ (x : ℕ). 1 ∷ x ∷ []) (div-add-mod' v stringLimit)
 text-again (suc (suc zero)) v h = refl
 text-again (suc (suc (suc zero))) v h = refl
 text-again (suc (suc (suc (suc k)))) v h = absurd (omega arith)
@@ -114,69 +114,89 @@ row-cells ns ts ds i e f =
 
 -- ---- the areas
 
-abbrev head : Elements → List ℕ
-head es = length (es .names) ∷ length (es .texts) ∷ length (es .trees) ∷ []
+abbrev counts : Elements → List ℕ
+counts es = length (es .names) ∷ length (es .texts) ∷ length (es .trees) ∷ []
 
-abbrev rows : Elements → List ElementRow
+abbrev pub rows : Elements → List ElementRow
 rows es = elementRows (es .names) (es .types) (es .depths)
 
-abbrev elementArea : Elements → List ℕ
-elementArea es = cells 3 elementLimit elementCells (rows es)
+abbrev pub elementArea : Elements → List ℕ
+elementArea es = cells elementWidth elementLimit elementCells (rows es)
 
-abbrev textArea : Elements → List ℕ
-textArea es = cells 2 itemLimit textCells (es .texts)
+abbrev pub textArea : Elements → List ℕ
+textArea es = cells textWidth itemLimit textCells (es .texts)
 
-abbrev treeArea : Elements → List ℕ
-treeArea es = cells 2 fileLimit treeCells (es .trees)
+abbrev pub treeArea : Elements → List ℕ
+treeArea es = cells treeWidth fileLimit treeCells (es .trees)
+
+-- the table, cut before each area
+cut-elements : (es : Elements) → encodeElements es ≡ counts es ++ (elementArea es ++ (textArea es ++ treeArea es))
+unfolding encodeElements
+cut-elements es = refl
+
+cut-texts : (es : Elements) → encodeElements es ≡ (counts es ++ elementArea es) ++ (textArea es ++ treeArea es)
+unfolding encodeElements
+cut-texts es = refl
+
+cut-trees : (es : Elements) → encodeElements es ≡ ((counts es ++ elementArea es) ++ textArea es) ++ treeArea es
+cut-trees es = cut-texts es ∙ sym (append-assoc (counts es ++ elementArea es) (textArea es) (treeArea es))
 
 module _ (es : Elements) (s : SizedElements es) where
-  rows-fit : length (rows es) ≤ elementLimit
+  pub rows-fit : length (rows es) ≤ elementLimit
   rows-fit = rw (length-elementRows (es .names) (es .types) (es .depths)) (s .count)
 
   length-elementArea : length (elementArea es) ≡ elementsArea
-  length-elementArea = length-cells 3 elementCells wide-element elementLimit (rows es) rows-fit
+  length-elementArea = length-cells elementWidth elementCells wide-element elementLimit (rows es) rows-fit
 
   length-textArea : length (textArea es) ≡ textsArea
-  length-textArea = length-cells 2 textCells wide-text itemLimit (es .texts) (s .textCount)
+  length-textArea = length-cells textWidth textCells wide-text itemLimit (es .texts) (s .textCount)
 
-  length-treeArea : length (treeArea es) ≡ 128
-  length-treeArea = length-cells 2 treeCells wide-tree fileLimit (es .trees) (s .treeCount)
+  length-treeArea : length (treeArea es) ≡ treesArea
+  length-treeArea = length-cells treeWidth treeCells wide-tree fileLimit (es .trees) (s .treeCount)
 
-  before-texts : length (head es ++ elementArea es) ≡ textsAt
+  before-texts : length (counts es ++ elementArea es) ≡ textsAt
   before-texts = ap (λ (n : ℕ). suc (suc (suc n))) length-elementArea
 
-  before-trees : length ((head es ++ elementArea es) ++ textArea es) ≡ treesAt
-  before-trees = rw (length-append (head es ++ elementArea es) (textArea es), before-texts, length-textArea)
+  before-trees : length ((counts es ++ elementArea es) ++ textArea es) ≡ treesAt
+  before-trees = rw (length-append (counts es ++ elementArea es) (textArea es), before-texts, length-textArea)
 
-  -- the table, cut before the trees
-  trees-last : encodeElements es ≡ ((head es ++ elementArea es) ++ textArea es) ++ treeArea es
+  -- the table from each area on
+  pub from-elements : drop elementsAt (encodeElements es) ≡ elementArea es ++ (textArea es ++ treeArea es)
   unfolding encodeElements
-  trees-last = ap (λ (l : List ℕ). head es ++ l) (sym (append-assoc (elementArea es) (textArea es) (treeArea es)))
+  from-elements = refl
+
+  pub from-texts : drop textsAt (encodeElements es) ≡ textArea es ++ treeArea es
+  from-texts = ap (drop textsAt) (cut-texts es) ∙ drop-at (counts es ++ elementArea es) (textArea es ++ treeArea es) textsAt before-texts
+
+  pub from-trees : drop treesAt (encodeElements es) ≡ treeArea es ++ []
+  from-trees =
+      ap (drop treesAt) (cut-trees es) ∙ drop-at ((counts es ++ elementArea es) ++ textArea es) (treeArea es) treesAt before-trees
+      ∙ sym (append-nil (treeArea es))
 
   -- ---- the table
 
   pub elements-size : length (encodeElements es) ≡ elementsSize
-  elements-size = rw (trees-last, length-append ((head es ++ elementArea es) ++ textArea es) (treeArea es), before-trees, length-treeArea)
+  elements-size = rw (cut-trees es, length-append ((counts es ++ elementArea es) ++ textArea es) (treeArea es), before-trees, length-treeArea)
 
   pub elements-back : elementsOf (encodeElements es) ≡ es
   unfolding encodeElements elementsOf
   elements-back =
-      let a : rowsOf 3 (length (es .names)) cellsElement (elementArea es ++ (textArea es ++ treeArea es)) ≡ rows es =
+      let a : rowsOf elementWidth (length (es .names)) cellsElement (elementArea es ++ (textArea es ++ treeArea es)) ≡ rows es =
       rw (← length-elementRows (es .names) (es .types) (es .depths))
-      (cells-back 3 elementCells wide-element cellsElement elementLimit (rows es) (textArea es ++ treeArea es)
+      (cells-back elementWidth elementCells wide-element cellsElement elementLimit (rows es) (textArea es ++ treeArea es)
       (each-all (λ (r : ElementRow). cellsElement (elementCells r) ≡ r) (rows es) (λ r. refl)))
       in
-      let b : rowsOf 2 (length (es .texts)) cellsText (drop elementsArea (elementArea es ++ (textArea es ++ treeArea es))) ≡ es .texts =
+      let b : rowsOf textWidth (length (es .texts)) cellsText (drop elementsArea (elementArea es ++ (textArea es ++ treeArea es))) ≡ es .texts =
       rw (drop-at (elementArea es) (textArea es ++ treeArea es) elementsArea length-elementArea)
-      (cells-back 2 textCells wide-text cellsText itemLimit (es .texts) (treeArea es)
+      (cells-back textWidth textCells wide-text cellsText itemLimit (es .texts) (treeArea es)
       (each-imp TextFits (λ (t : Text). cellsText (textCells t) ≡ t) (es .texts) text-back (s .strings)))
       in
-      let c : rowsOf 2 (length (es .trees)) cellsTree (drop textsArea (drop elementsArea (elementArea es ++ (textArea es ++ treeArea es)))) ≡ es .trees =
+      let c : rowsOf treeWidth (length (es .trees)) cellsTree (drop textsArea (drop elementsArea (elementArea es ++ (textArea es ++ treeArea es)))) ≡ es .trees =
       rw (
         drop-at (elementArea es) (textArea es ++ treeArea es) elementsArea length-elementArea,
         drop-at (textArea es) (treeArea es) textsArea length-textArea,
       )
-      (last-back 2 treeCells wide-tree cellsTree fileLimit (es .trees)
+      (last-back treeWidth treeCells wide-tree cellsTree fileLimit (es .trees)
       (each-all (λ (t : Tree). cellsTree (treeCells t) ≡ t) (es .trees) (λ t. refl)))
       in
       let n : map (λ (r : ElementRow). r .name) (rows es) ≡ es .names = row-names (es .names) (es .types) (es .depths) in
@@ -208,82 +228,51 @@ module _ (xs : List ℕ) (g : GoodElements xs) where
   unfolding encodeElements
   tree-count = ap (λ (l : List ℕ). getD l 2 0) (g .raw)
 
-  pub element-cell : (i j : ℕ) → i < length (elementsOf xs .names) → j < 3 → getD xs (elementsAt + (i * 3 + j)) 0
+  pub element-cell : (i j : ℕ) → i < length (elementsOf xs .names) → j < elementWidth → getD xs (elementsAt + (i * elementWidth + j)) 0
       ≡ getD (getD (elementsOf xs .names) i 0 ∷ getD (elementsOf xs .types) i 0 ∷ getD (elementsOf xs .depths) i 0 ∷ []) j 0
   unfolding encodeElements
   element-cell i j h k =
       let es : Elements = elementsOf xs in
       let f : i < length (rows es) = rw (length-elementRows (es .names) (es .types) (es .depths)) h in
-      ap (λ (l : List ℕ). getD l (elementsAt + (i * 3 + j)) 0) (g .raw)
-      ∙ read-row 3 elementCells wide-element (head es) (textArea es ++ treeArea es) elementsAt elementLimit (rows es) i j noRow refl (rows-fit es (g .sized)) f k
+      ap (λ (l : List ℕ). getD l (elementsAt + (i * elementWidth + j)) 0) (g .raw)
+      ∙ read-row elementWidth elementCells wide-element (counts es) (textArea es ++ treeArea es) elementsAt elementLimit (rows es) i j noRow refl (rows-fit es (g .sized)) f k
       ∙ ap (λ (l : List ℕ). getD l j 0) (row-cells (es .names) (es .types) (es .depths) i (g .sized .sameTypes) (g .sized .sameDepths))
 
-  pub text-cell : (i j : ℕ) → i < length (elementsOf xs .texts) → j < 2
-      → getD xs (textsAt + (i * 2 + j)) 0 ≡ getD (textCells (getD (elementsOf xs .texts) i (enumNumber 0))) j 0
+  pub text-cell : (i j : ℕ) → i < length (elementsOf xs .texts) → j < textWidth
+      → getD xs (textsAt + (i * textWidth + j)) 0 ≡ getD (textCells (getD (elementsOf xs .texts) i (enumNumber 0))) j 0
   unfolding encodeElements
   text-cell i j h k =
       let es : Elements = elementsOf xs in
-      ap (λ (l : List ℕ). getD l (textsAt + (i * 2 + j)) 0) (g .raw)
-      ∙ read-row 2 textCells wide-text (head es ++ elementArea es) (treeArea es) textsAt itemLimit (es .texts) i j (enumNumber 0)
+      ap (λ (l : List ℕ). getD l (textsAt + (i * textWidth + j)) 0) (g .raw)
+      ∙ read-row textWidth textCells wide-text (counts es ++ elementArea es) (treeArea es) textsAt itemLimit (es .texts) i j (enumNumber 0)
       (before-texts es (g .sized)) (g .sized .textCount) h k
 
-  pub tree-cell : (i j : ℕ) → i < length (elementsOf xs .trees) → j < 2
-      → getD xs (treesAt + (i * 2 + j)) 0 ≡ getD (treeCells (getD (elementsOf xs .trees) i noTree)) j 0
+  pub tree-cell : (i j : ℕ) → i < length (elementsOf xs .trees) → j < treeWidth
+      → getD xs (treesAt + (i * treeWidth + j)) 0 ≡ getD (treeCells (getD (elementsOf xs .trees) i noTree)) j 0
   tree-cell i j h k =
       let es : Elements = elementsOf xs in
-      ap (λ (l : List ℕ). getD l (treesAt + (i * 2 + j)) 0) (g .raw ∙ trees-last es (g .sized))
-      ∙ read-last 2 treeCells wide-tree ((head es ++ elementArea es) ++ textArea es) treesAt fileLimit (es .trees) i j noTree
+      ap (λ (l : List ℕ). getD l (treesAt + (i * treeWidth + j)) 0) (g .raw ∙ cut-trees es)
+      ∙ read-last treeWidth treeCells wide-tree ((counts es ++ elementArea es) ++ textArea es) treesAt fileLimit (es .trees) i j noTree
       (before-trees es (g .sized)) (g .sized .treeCount) h k
 
 -- ---- stores: one row more, and the count
 
-module _ (es : Elements) (s : SizedElements es) where
-  add-element-cells : (n t d : ℕ) → length (es .names) < elementLimit
-      → set (puts (encodeElements es) (elementsAt + length (es .names) * 3) (n ∷ t ∷ d ∷ [])) 0 (length (es .names) + 1) ≡ encodeElements (addElement es n t d)
-  unfolding encodeElements addElement
-  add-element-cells n t d h =
-      let e : length (rows es) ≡ length (es .names) = length-elementRows (es .names) (es .types) (es .depths) in
-      let f : puts (encodeElements es) (elementsAt + length (rows es) * 3) (n ∷ t ∷ d ∷ [])
-      ≡ head es ++ (cells 3 elementLimit elementCells (rows es ++ (record { name = n; type = t; depth = d } ∷ [])) ++ (textArea es ++ treeArea es)) =
-      append-row 3 elementCells wide-element (head es) (textArea es ++ treeArea es) elementsAt elementLimit (rows es)
-      (record { name = n; type = t; depth = d }) refl (rw e h)
-      in
-      rw (length-append (es .names) (n ∷ []), rows-more (es .names) (es .types) (es .depths) n t d (s .sameTypes) (s .sameDepths))
-      (ap (λ (l : List ℕ). set l 0 (length (es .names) + 1)) (rw e at f))
-
-  add-text-cells : (t : Text) → length (es .texts) < itemLimit
-      → set (puts (encodeElements es) (textsAt + length (es .texts) * 2) (textCells t)) 1 (length (es .texts) + 1) ≡ encodeElements (addText es t)
-  unfolding encodeElements addText
-  add-text-cells t h =
-      rw (length-append (es .texts) (t ∷ []))
-      (ap (λ (l : List ℕ). set l 1 (length (es .texts) + 1))
-      (append-row 2 textCells wide-text (head es ++ elementArea es) (treeArea es) textsAt itemLimit (es .texts) t (before-texts es s) h))
-
-  with-tree : (t : Tree) → set (((head es ++ elementArea es) ++ textArea es) ++ cells 2 fileLimit treeCells (es .trees ++ (t ∷ []))) 2 (length (es .trees) + 1)
-      ≡ encodeElements (addTree es t)
-  unfolding encodeElements addTree
-  with-tree t =
-      rw (length-append (es .trees) (t ∷ []), append-assoc (elementArea es) (textArea es) (cells 2 fileLimit treeCells (es .trees ++ (t ∷ []))))
-
-  add-tree-cells : (t : Tree) → length (es .trees) < fileLimit
-      → set (puts (encodeElements es) (treesAt + length (es .trees) * 2) (treeCells t)) 2 (length (es .trees) + 1) ≡ encodeElements (addTree es t)
-  add-tree-cells t h =
-      ap (λ (l : List ℕ). set (puts l (treesAt + length (es .trees) * 2) (treeCells t)) 2 (length (es .trees) + 1)) (trees-last es s)
-      ∙ ap (λ (l : List ℕ). set l 2 (length (es .trees) + 1))
-      (append-last 2 treeCells wide-tree ((head es ++ elementArea es) ++ textArea es) treesAt fileLimit (es .trees) t (before-trees es s) h)
-      ∙ with-tree t
-
 -- in each, m is the count, and ys the table with the row behind the last one
 module _ (xs : List ℕ) (g : GoodElements xs) (m : ℕ) (ys : List ℕ) where
   pub added-element : (n t d : ℕ) → length (elementsOf xs .names) < elementLimit → m ≡ length (elementsOf xs .names)
-      → ys ≡ puts xs (elementsAt + m * 3) (n ∷ t ∷ d ∷ []) → HoldsElements (set ys 0 (m + 1)) (addElement (elementsOf xs) n t d)
+      → ys ≡ puts xs (elementsAt + m * elementWidth) (n ∷ t ∷ d ∷ []) → HoldsElements (set ys 0 (m + 1)) (addElement (elementsOf xs) n t d)
   unfolding addElement
   added-element n t d h e y =
       let es : Elements = elementsOf xs in
+      let row : ElementRow = record { name = n; type = t; depth = d } in
+      let c : length (rows es) ≡ length (es .names) = length-elementRows (es .names) (es .types) (es .depths) in
+      let z =
+      appended elementWidth elementCells wide-element xs (counts es) (textArea es ++ treeArea es) ys (elementCells row) elementsAt elementLimit m (rows es) row
+      (g .raw ∙ cut-elements es) refl (rw c h) (e ∙ sym c) refl y
+      in
+      let more = rows-more (es .names) (es .types) (es .depths) n t d (g .sized .sameTypes) (g .sized .sameDepths) in
       hold-elements (addElement es n t d) (set ys 0 (m + 1))
-      (rw (y, e)
-      (ap (λ (l : List ℕ). set (puts l (elementsAt + length (es .names) * 3) (n ∷ t ∷ d ∷ [])) 0 (length (es .names) + 1)) (g .raw)
-      ∙ add-element-cells es (g .sized) n t d h))
+      (ap (λ (l : List ℕ). set l 0 (m + 1)) z ∙ rw (e, ← length-append (es .names) (n ∷ []), ← more) (sym (cut-elements (addElement es n t d))))
       (record {
         sameTypes = simp length-append (omega (arith, g .sized .sameTypes));
         sameDepths = simp length-append (omega (arith, g .sized .sameDepths));
@@ -294,17 +283,16 @@ module _ (xs : List ℕ) (g : GoodElements xs) (m : ℕ) (ys : List ℕ) where
       })
 
   pub added-text : (k v : ℕ) → k < 4 → length (elementsOf xs .texts) < itemLimit → m ≡ length (elementsOf xs .texts)
-      → ys ≡ puts xs (textsAt + m * 2) (k ∷ v ∷ []) → HoldsElements (set ys 1 (m + 1)) (addText (elementsOf xs) (textFrom k v))
+      → ys ≡ puts xs (textsAt + m * textWidth) (k ∷ v ∷ []) → HoldsElements (set ys 1 (m + 1)) (addText (elementsOf xs) (textFrom k v))
   unfolding addText
   added-text k v q h e y =
       let es : Elements = elementsOf xs in
-      let f : ys ≡ puts xs (textsAt + m * 2) (textCells (textFrom k v)) =
-      y ∙ ap (λ (vs : List ℕ). puts xs (textsAt + m * 2) vs) (sym (text-again k v q))
+      let z =
+      appended textWidth textCells wide-text xs (counts es ++ elementArea es) (treeArea es) ys (k ∷ v ∷ []) textsAt itemLimit m (es .texts) (textFrom k v)
+      (g .raw ∙ cut-texts es) (before-texts es (g .sized)) h e (text-again k v q) y
       in
       hold-elements (addText es (textFrom k v)) (set ys 1 (m + 1))
-      (rw (f, e)
-      (ap (λ (l : List ℕ). set (puts l (textsAt + length (es .texts) * 2) (textCells (textFrom k v))) 1 (length (es .texts) + 1)) (g .raw)
-      ∙ add-text-cells es (g .sized) (textFrom k v) h))
+      (ap (λ (l : List ℕ). set l 1 (m + 1)) z ∙ rw (e, ← length-append (es .texts) (textFrom k v ∷ [])) (sym (cut-texts (addText es (textFrom k v)))))
       (record {
         sameTypes = g .sized .sameTypes;
         sameDepths = g .sized .sameDepths;
@@ -315,14 +303,16 @@ module _ (xs : List ℕ) (g : GoodElements xs) (m : ℕ) (ys : List ℕ) where
       })
 
   pub added-tree : (t : Tree) → length (elementsOf xs .trees) < fileLimit → m ≡ length (elementsOf xs .trees)
-      → ys ≡ puts xs (treesAt + m * 2) (treeCells t) → HoldsElements (set ys 2 (m + 1)) (addTree (elementsOf xs) t)
+      → ys ≡ puts xs (treesAt + m * treeWidth) (treeCells t) → HoldsElements (set ys 2 (m + 1)) (addTree (elementsOf xs) t)
   unfolding addTree
   added-tree t h e y =
       let es : Elements = elementsOf xs in
+      let z =
+      appended-last treeWidth treeCells wide-tree xs ((counts es ++ elementArea es) ++ textArea es) ys (treeCells t) treesAt fileLimit m (es .trees) t
+      (g .raw ∙ cut-trees es) (before-trees es (g .sized)) h e refl y
+      in
       hold-elements (addTree es t) (set ys 2 (m + 1))
-      (rw (y, e)
-      (ap (λ (l : List ℕ). set (puts l (treesAt + length (es .trees) * 2) (treeCells t)) 2 (length (es .trees) + 1)) (g .raw)
-      ∙ add-tree-cells es (g .sized) t h))
+      (ap (λ (l : List ℕ). set l 2 (m + 1)) z ∙ rw (e, ← length-append (es .trees) (t ∷ [])) (sym (cut-trees (addTree es t))))
       (record {
         sameTypes = g .sized .sameTypes;
         sameDepths = g .sized .sameDepths;

@@ -10,11 +10,9 @@ use lib.Bits.{bitAnd, bitOr, bitXor, differ, and-comm, and-shr, and-mod, and-mas
 use lib.Dec.{eqb}
 use lib.Pow.{pow-lt}
 use Rattle.tables.specs.FileSets.{holds, withFile, withoutFile, partOf, noSet}
+use Rattle.tables.specs.Limits.{fileLimit}
 use Rattle.tables.specs.Records.{FileNumber, FileSet}
-
-by-test {ℓ} : {A : Type ℓ} (b : Bool) → (b ≡ true → A) → (b ≡ false → A) → A
-by-test true h k = h refl
-by-test false h k = k refl
+use Rattle.tables.proofs.Laws.Cases.{bool-split}
 
 -- ---- each by its cases
 
@@ -61,27 +59,27 @@ held-le s f h =
 
 withFile-zero-half : (s : FileSet) → withFile s 0 / 2 ≡ s / 2
 withFile-zero-half s =
-    by-test (holds s 0) (λ h. rw (withFile-held s 0 h)) (λ h. rw (withFile-absent s 0 h) (omega (arith, even s h)))
+    bool-split (holds s 0) (λ h. rw (withFile-held s 0 h)) (λ h. rw (withFile-absent s 0 h) (omega (arith, even s h)))
 
 withFile-suc-half : (s : FileSet) (f : FileNumber) → withFile s (suc f) / 2 ≡ withFile (s / 2) f
 withFile-suc-half s f =
-    by-test (holds (s / 2) f)
+    bool-split (holds (s / 2) f)
     (λ h. rw (withFile-held s (suc f) (holds-suc s f ∙ h), withFile-held (s / 2) f h))
     (λ h. rw (withFile-absent s (suc f) (holds-suc s f ∙ h), withFile-absent (s / 2) f h, pow-succ' 2 f) (omega arith))
 
 withFile-suc-odd : (s : FileSet) (f : FileNumber) → withFile s (suc f) % 2 ≡ s % 2
 withFile-suc-odd s f =
-    by-test (holds s (suc f))
+    bool-split (holds s (suc f))
     (λ h. rw (withFile-held s (suc f) h))
     (λ h. rw (withFile-absent s (suc f) h, pow-succ' 2 f) (omega arith))
 
 withoutFile-zero-half : (s : FileSet) → withoutFile s 0 / 2 ≡ s / 2
 withoutFile-zero-half s =
-    by-test (holds s 0) (λ h. rw (withoutFile-held s 0 h) (omega (arith, odd s h))) (λ h. rw (withoutFile-absent s 0 h))
+    bool-split (holds s 0) (λ h. rw (withoutFile-held s 0 h) (omega (arith, odd s h))) (λ h. rw (withoutFile-absent s 0 h))
 
 withoutFile-suc-half : (s : FileSet) (f : FileNumber) → withoutFile s (suc f) / 2 ≡ withoutFile (s / 2) f
 withoutFile-suc-half s f =
-    by-test (holds (s / 2) f)
+    bool-split (holds (s / 2) f)
     (λ h.
     let p = held-le (s / 2) f h in
     rw (withoutFile-held s (suc f) (holds-suc s f ∙ h), withoutFile-held (s / 2) f h, pow-succ' 2 f) (omega arith))
@@ -89,7 +87,7 @@ withoutFile-suc-half s f =
 
 withoutFile-suc-odd : (s : FileSet) (f : FileNumber) → withoutFile s (suc f) % 2 ≡ s % 2
 withoutFile-suc-odd s f =
-    by-test (holds s (suc f))
+    bool-split (holds s (suc f))
     (λ h.
     let p = held-le (s / 2) f (sym (holds-suc s f) ∙ h) in
     rw (withoutFile-held s (suc f) h, pow-succ' 2 f) (omega arith))
@@ -113,7 +111,7 @@ module _ (change : FileSet → FileNumber → FileSet) (zero-half : (s : FileSet
 
 pub holds-withFile : (s : FileSet) (f : FileNumber) → holds (withFile s f) f ≡ true
 holds-withFile s zero =
-    by-test (holds s 0)
+    bool-split (holds s 0)
     (λ h. rw (withFile-held s 0 h) h)
     (λ h. rw (withFile-absent s 0 h, holds-zero (s + 2 ^ 0)) (eq-eqb ((s + 1) % 2) 1 (omega (arith, even s h))))
 holds-withFile s (suc f) =
@@ -124,7 +122,7 @@ holds-withFile-other = others-stay withFile withFile-zero-half withFile-suc-half
 
 pub holds-withoutFile : (s : FileSet) (f : FileNumber) → holds (withoutFile s f) f ≡ false
 holds-withoutFile s zero =
-    by-test (holds s 0)
+    bool-split (holds s 0)
     (λ h.
     rw (withoutFile-held s 0 h, holds-zero (s - 2 ^ 0))
     (ne-eqb ((s - 1) % 2) 1 (λ e. omega (arith, odd s h))))
@@ -172,13 +170,13 @@ withFile-lt (suc w) s (suc f) h k =
 
 pub withoutFile-le : (s : FileSet) (f : FileNumber) → withoutFile s f ≤ s
 withoutFile-le s f =
-    by-test (holds s f) (λ h. rw (withoutFile-held s f h) (omega arith)) (λ h. rw (withoutFile-absent s f h) (omega arith))
+    bool-split (holds s f) (λ h. rw (withoutFile-held s f h) (omega arith)) (λ h. rw (withoutFile-absent s f h) (omega arith))
 
 -- a file past the width is in no set
 pub absent-past : (w : ℕ) (s : FileSet) (f : FileNumber) → s < 2 ^ w → w ≤ f → holds s f ≡ false
 absent-past w s f h k =
     let p : 2 ^ w ≤ 2 ^ f = pow-le-pow-right (omega arith) k in
-    by-test (holds s f) (λ e. let q = held-le s f e in absurd (omega arith)) (λ e. e)
+    bool-split (holds s f) (λ e. let q = held-le s f e in absurd (omega arith)) (λ e. e)
 
 -- ---- part of another set
 
@@ -188,7 +186,7 @@ halves-hold s t h f e = sym (holds-suc t f) ∙ h (suc f) (holds-suc s f ∙ e)
 
 min-odd : (s t : FileSet) → (holds s 0 ≡ true → holds t 0 ≡ true) → min (s % 2) (t % 2) ≡ s % 2
 min-odd s t h =
-    by-test (holds s 0)
+    bool-split (holds s 0)
     (λ e. rw (odd s e, odd t (h e)))
     (λ e. rw (even s e) (zero-min (t % 2)))
 
@@ -202,7 +200,7 @@ and-part =
 -- a file of both sets' common part is in the second
 and-holds : (s t : FileSet) → bitAnd s t ≡ s → (f : FileNumber) → holds s f ≡ true → holds t f ≡ true
 and-holds s t e zero h =
-    by-test (holds t 0)
+    bool-split (holds t 0)
     (λ k. k)
     (λ k.
     let z : min (s % 2) (t % 2) ≡ 0 = rw (odd s h, even t k) in
@@ -232,7 +230,7 @@ pub partOf-withFile : (s d : FileSet) (f : FileNumber) → partOf s d ≡ true �
 partOf-withFile s d f h k =
     holds-partOf (withFile s f) d
     (λ g e.
-    by-test (eqb g f)
+    bool-split (eqb g f)
     (λ q. rw (eqb-true g f q) k)
     (λ q. partOf-holds s d h g (sym (holds-withFile-other s f g (eqb-false g f q)) ∙ e)))
 
@@ -240,7 +238,7 @@ pub partOf-withoutFile : (s d : FileSet) (f : FileNumber) → partOf s d ≡ tru
 partOf-withoutFile s d f h =
     holds-partOf (withoutFile s f) d
     (λ g e.
-    by-test (eqb g f)
+    bool-split (eqb g f)
     (λ q. let z : true ≡ false = sym e ∙ rw (eqb-true g f q) (holds-withoutFile s f) in cc)
     (λ q. partOf-holds s d h g (sym (holds-withoutFile-other s f g (eqb-false g f q)) ∙ e)))
 
@@ -264,7 +262,7 @@ pow-suc-even f = rw (pow-succ' 2 f) (omega arith)
 pub or-withFile : (s : FileSet) (f : FileNumber) → bitOr s (2 ^ f) ≡ withFile s f
 or-withFile s zero =
     or-step s 1 ∙ join (or-zero-r (s / 2)) refl
-    ∙ by-test (holds s 0)
+    ∙ bool-split (holds s 0)
     (λ h. rw (withFile-held s 0 h, odd s h) (omega (arith, odd s h)))
     (λ h. rw (withFile-absent s 0 h, even s h) (omega (arith, even s h)))
 or-withFile s (suc f) =
@@ -286,7 +284,7 @@ and-pow-even s f = and-mod s (2 ^ suc f) 1 ∙ ap (bitAnd (s % 2)) (pow-suc-even
 pub xor-withoutFile : (s : FileSet) (f : FileNumber) → bitXor s (bitAnd s (2 ^ f)) ≡ withoutFile s f
 xor-withoutFile s zero =
     ap (bitXor s) (and-mask s 1) ∙ xor-step s (s % 2)
-    ∙ by-test (holds s 0)
+    ∙ bool-split (holds s 0)
     (λ h. rw (withoutFile-held s 0 h, odd s h, xor-zero-r (s / 2)) (omega (arith, odd s h)))
     (λ h. rw (withoutFile-absent s 0 h, even s h, xor-zero-r (s / 2)) (omega (arith, even s h)))
 xor-withoutFile s (suc f) =
@@ -295,6 +293,6 @@ xor-withoutFile s (suc f) =
     (ap (differ (s % 2)) (and-pow-even s f) ∙ differ-zero (s % 2) ∙ sym (withoutFile-suc-odd s f))
     ∙ div-add-mod' (withoutFile s (suc f)) 2
 
--- the bit of a file below 64
-pub one-shifted : (f : FileNumber) → f < 64 → 1 * 2 ^ f % 2 ^ 64 ≡ 2 ^ f
+-- the bit of a file
+pub one-shifted : (f : FileNumber) → f < fileLimit → 1 * 2 ^ f % 2 ^ 64 ≡ 2 ^ f
 one-shifted f h = rw (one-mul (2 ^ f)) (mod-eq-of-lt (pow-lt h))

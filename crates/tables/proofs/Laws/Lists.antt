@@ -217,6 +217,12 @@ shiftOut-is [] i h = absurd (not-suc-le-zero h)
 shiftOut-is (x ∷ xs) zero h = refl
 shiftOut-is (x ∷ xs) (suc i) h = ap (λ (r : List ℕ). x ∷ r) (shiftOut-is xs i (le-of-suc-le-suc h))
 
+pub length-shiftOut : (s : List ℕ) (i : ℕ) → length (shiftOut s i) ≡ length s
+unfolding shiftOut
+length-shiftOut [] i = refl
+length-shiftOut (x ∷ s) zero = length-append s (0 ∷ []) ∙ add-one (length s)
+length-shiftOut (x ∷ s) (suc i) = ap suc (length-shiftOut s i)
+
 shiftOut-turn-suc : (s : List ℕ) (j : ℕ) → suc j < length s → shiftOut (set s j (getD s (suc j) 0)) (suc j) ≡ shiftOut s j
 unfolding shiftOut
 shiftOut-turn-suc [] j h = absurd (not-suc-le-zero h)

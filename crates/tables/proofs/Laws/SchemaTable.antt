@@ -1,18 +1,18 @@
 -- Laws of the schema's table: reading it back, its counts and rows, a type, a group, a row, a file added. Assumes nothing.
 use mathlib.Core.Bool.{Bool, true, false, not}
 use mathlib.Core.Path.{_≡_, refl, sym, ap, _∙_}
-use mathlib.Core.List.{List, [], _∷_, _++_, append-assoc}
+use mathlib.Core.List.{List, [], _∷_, _++_, append-assoc, append-nil}
 use Prim.Native.Nat.{ℕ, zero, suc, _+_, _*_, _-_, _≤_, _<_}
 use native.Mathlib.Omega.{arith}
 use lib.Dec.{eqb}
 use lib.ListN.{length, getD, set, drop, length-append}
 use lib.Seq.{drop-at}
 use Rattle.tables.specs.Cells.{cells, rowsOf, puts, Each}
-use Rattle.tables.specs.Limits.{typeLimit, groupLimit, rowLimit, fileLimit}
+use Rattle.tables.specs.Limits.{typeLimit, groupLimit, rowLimit, fileLimit, pathLimit}
 use Rattle.tables.specs.Paths.{front, pathCells}
-use Rattle.tables.specs.Records.{SchemaPath, Mode, sequence, choice, bag, mixed, characters, Mult, atMostOne, one, any, TypeRow, Group, SubElement, File, Schema, noType, typeRow, addType, addGroup, addSubElement, addFile}
-use Rattle.tables.specs.SchemaTable.{schemaSize, typesAt, groupsAt, rowsAt, filesAt, typesArea, groupsArea, rowsArea, modeNumber, modeFrom, multNumber, multFrom, boolNumber, boolFrom, pathLimit, partCell, typeCells, cellsType, groupCells, cellsGroup, subElementCells, cellsSubElement, fileCells, cellsFile, noGroup, noSubElement, noFile, encodeSchema, schemaOf, GroupFits, RowFits, SizedSchema, GoodSchema, HoldsSchema}
-use Rattle.tables.proofs.Laws.Cells.{length-cells, cells-back, last-back, each-all, each-imp, each-append, each-getD, read-row, read-last, append-row, append-last}
+use Rattle.tables.specs.Records.{SchemaPath, Mode, sequence, choice, bag, mixed, characters, modes, Mult, atMostOne, one, any, mults, TypeRow, Group, SubElement, File, Schema, noType, typeRow, addType, addGroup, addSubElement, addFile}
+use Rattle.tables.specs.SchemaTable.{schemaSize, typesAt, groupsAt, rowsAt, filesAt, typesArea, groupsArea, rowsArea, filesArea, typeWidth, groupWidth, rowWidth, fileWidth, modeNumber, modeFrom, multNumber, multFrom, boolNumber, boolFrom, partCell, typeCells, cellsType, groupCells, cellsGroup, subElementCells, cellsSubElement, fileCells, cellsFile, noGroup, noSubElement, noFile, encodeSchema, schemaOf, GroupFits, RowFits, SizedSchema, GoodSchema, HoldsSchema}
+use Rattle.tables.proofs.Laws.Cells.{length-cells, cells-back, last-back, each-all, each-imp, each-append, each-getD, read-row, read-last, appended, appended-last}
 use Rattle.tables.proofs.Laws.Paths.{front-cells, length-pathCells}
 
 -- ---- numbers and back
@@ -25,7 +25,7 @@ mode-back bag = refl
 mode-back mixed = refl
 mode-back characters = refl
 
-pub mode-again : (n : ℕ) → n < 5 → modeNumber (modeFrom n) ≡ n
+pub mode-again : (n : ℕ) → n < length modes → modeNumber (modeFrom n) ≡ n
 unfolding modeNumber
 mode-again zero h = refl
 mode-again (suc zero) h = refl
@@ -40,7 +40,7 @@ mult-back atMostOne = refl
 mult-back one = refl
 mult-back any = refl
 
-pub mult-again : (n : ℕ) → n < 3 → multNumber (multFrom n) ≡ n
+pub mult-again : (n : ℕ) → n < length mults → multNumber (multFrom n) ≡ n
 unfolding multNumber
 mult-again zero h = refl
 mult-again (suc zero) h = refl
@@ -110,16 +110,16 @@ module _ (a b c d : ℕ) where
 
 -- ---- rows
 
-abbrev pub wide-type : (r : TypeRow) → length (typeCells r) ≡ 3
+abbrev pub wide-type : (r : TypeRow) → length (typeCells r) ≡ typeWidth
 wide-type r = refl
 
-abbrev pub wide-group : (g : Group) → length (groupCells g) ≡ 6
+abbrev pub wide-group : (g : Group) → length (groupCells g) ≡ groupWidth
 wide-group g = refl
 
-abbrev pub wide-row : (r : SubElement) → length (subElementCells r) ≡ 9
+abbrev pub wide-row : (r : SubElement) → length (subElementCells r) ≡ rowWidth
 wide-row r = refl
 
-abbrev pub wide-file : (f : File) → length (fileCells f) ≡ 2
+abbrev pub wide-file : (f : File) → length (fileCells f) ≡ fileWidth
 wide-file f = refl
 
 pub type-back : (r : TypeRow) → cellsType (typeCells r) ≡ r
@@ -142,97 +142,113 @@ row-back r h =
 
 -- the cells of a row, where a b c d are those of its path
 module _ (t a b c d : ℕ) (p : SchemaPath) (e : a ∷ b ∷ c ∷ d ∷ [] ≡ pathCells pathLimit p) where
-  pub group-cells : (m : ℕ) → m < 5 → groupCells (record { type = t; path = p; mode = modeFrom m }) ≡ t ∷ a ∷ b ∷ c ∷ d ∷ m ∷ []
+  pub group-cells : (m : ℕ) → m < length modes → groupCells (record { type = t; path = p; mode = modeFrom m }) ≡ t ∷ a ∷ b ∷ c ∷ d ∷ m ∷ []
   group-cells m h = rw (← e, mode-again m h)
 
   pub row-cells : (n u m k : ℕ) → m < 3
       → subElementCells (record { type = t; path = p; name = n; childType = u; mult = multFrom m; mask = k }) ≡ t ∷ a ∷ b ∷ c ∷ d ∷ n ∷ u ∷ m ∷ k ∷ []
   row-cells n u m k h = rw (← e, mult-again m h)
 
-pub type-cells : (m c k : ℕ) (b : Bool) → m < 5 → c ≡ boolNumber b → typeCells (record { mode = modeFrom m; named = b; split = k }) ≡ m ∷ c ∷ k ∷ []
+pub type-cells : (m c k : ℕ) (b : Bool) → m < length modes → c ≡ boolNumber b → typeCells (record { mode = modeFrom m; named = b; split = k }) ≡ m ∷ c ∷ k ∷ []
 type-cells m c k b h e = rw (e, mode-again m h)
 
 -- ---- the areas
 
-abbrev head : Schema → List ℕ
-head sc = length (sc .types) ∷ length (sc .groups) ∷ length (sc .subElements) ∷ length (sc .files) ∷ []
+abbrev counts : Schema → List ℕ
+counts sc = length (sc .types) ∷ length (sc .groups) ∷ length (sc .subElements) ∷ length (sc .files) ∷ []
 
-abbrev typeArea : Schema → List ℕ
-typeArea sc = cells 3 typeLimit typeCells (sc .types)
+abbrev pub typeArea : Schema → List ℕ
+typeArea sc = cells typeWidth typeLimit typeCells (sc .types)
 
-abbrev groupArea : Schema → List ℕ
-groupArea sc = cells 6 groupLimit groupCells (sc .groups)
+abbrev pub groupArea : Schema → List ℕ
+groupArea sc = cells groupWidth groupLimit groupCells (sc .groups)
 
-abbrev rowArea : Schema → List ℕ
-rowArea sc = cells 9 rowLimit subElementCells (sc .subElements)
+abbrev pub rowArea : Schema → List ℕ
+rowArea sc = cells rowWidth rowLimit subElementCells (sc .subElements)
 
-abbrev fileArea : Schema → List ℕ
-fileArea sc = cells 2 fileLimit fileCells (sc .files)
+abbrev pub fileArea : Schema → List ℕ
+fileArea sc = cells fileWidth fileLimit fileCells (sc .files)
 
 -- the table, cut before each area
-cut-types : (sc : Schema) → encodeSchema sc ≡ head sc ++ (typeArea sc ++ (groupArea sc ++ (rowArea sc ++ fileArea sc)))
+cut-types : (sc : Schema) → encodeSchema sc ≡ counts sc ++ (typeArea sc ++ (groupArea sc ++ (rowArea sc ++ fileArea sc)))
 unfolding encodeSchema
 cut-types sc = refl
 
-cut-groups : (sc : Schema) → encodeSchema sc ≡ (head sc ++ typeArea sc) ++ (groupArea sc ++ (rowArea sc ++ fileArea sc))
+cut-groups : (sc : Schema) → encodeSchema sc ≡ (counts sc ++ typeArea sc) ++ (groupArea sc ++ (rowArea sc ++ fileArea sc))
 unfolding encodeSchema
 cut-groups sc = refl
 
-cut-rows : (sc : Schema) → encodeSchema sc ≡ ((head sc ++ typeArea sc) ++ groupArea sc) ++ (rowArea sc ++ fileArea sc)
-cut-rows sc = cut-groups sc ∙ sym (append-assoc (head sc ++ typeArea sc) (groupArea sc) (rowArea sc ++ fileArea sc))
+cut-rows : (sc : Schema) → encodeSchema sc ≡ ((counts sc ++ typeArea sc) ++ groupArea sc) ++ (rowArea sc ++ fileArea sc)
+cut-rows sc = cut-groups sc ∙ sym (append-assoc (counts sc ++ typeArea sc) (groupArea sc) (rowArea sc ++ fileArea sc))
 
-cut-files : (sc : Schema) → encodeSchema sc ≡ (((head sc ++ typeArea sc) ++ groupArea sc) ++ rowArea sc) ++ fileArea sc
-cut-files sc = cut-rows sc ∙ sym (append-assoc ((head sc ++ typeArea sc) ++ groupArea sc) (rowArea sc) (fileArea sc))
+cut-files : (sc : Schema) → encodeSchema sc ≡ (((counts sc ++ typeArea sc) ++ groupArea sc) ++ rowArea sc) ++ fileArea sc
+cut-files sc = cut-rows sc ∙ sym (append-assoc ((counts sc ++ typeArea sc) ++ groupArea sc) (rowArea sc) (fileArea sc))
 
 module _ (sc : Schema) (s : SizedSchema sc) where
   length-typeArea : length (typeArea sc) ≡ typesArea
-  length-typeArea = length-cells 3 typeCells wide-type typeLimit (sc .types) (s .typeCount)
+  length-typeArea = length-cells typeWidth typeCells wide-type typeLimit (sc .types) (s .typeCount)
 
   length-groupArea : length (groupArea sc) ≡ groupsArea
-  length-groupArea = length-cells 6 groupCells wide-group groupLimit (sc .groups) (s .groupCount)
+  length-groupArea = length-cells groupWidth groupCells wide-group groupLimit (sc .groups) (s .groupCount)
 
   length-rowArea : length (rowArea sc) ≡ rowsArea
-  length-rowArea = length-cells 9 subElementCells wide-row rowLimit (sc .subElements) (s .rowCount)
+  length-rowArea = length-cells rowWidth subElementCells wide-row rowLimit (sc .subElements) (s .rowCount)
 
-  length-fileArea : length (fileArea sc) ≡ 128
-  length-fileArea = length-cells 2 fileCells wide-file fileLimit (sc .files) (s .fileCount)
+  length-fileArea : length (fileArea sc) ≡ filesArea
+  length-fileArea = length-cells fileWidth fileCells wide-file fileLimit (sc .files) (s .fileCount)
 
-  before-groups : length (head sc ++ typeArea sc) ≡ groupsAt
+  before-groups : length (counts sc ++ typeArea sc) ≡ groupsAt
   before-groups = ap (λ (n : ℕ). suc (suc (suc (suc n)))) length-typeArea
 
-  before-rows : length ((head sc ++ typeArea sc) ++ groupArea sc) ≡ rowsAt
-  before-rows = rw (length-append (head sc ++ typeArea sc) (groupArea sc), before-groups, length-groupArea)
+  before-rows : length ((counts sc ++ typeArea sc) ++ groupArea sc) ≡ rowsAt
+  before-rows = rw (length-append (counts sc ++ typeArea sc) (groupArea sc), before-groups, length-groupArea)
 
-  before-files : length (((head sc ++ typeArea sc) ++ groupArea sc) ++ rowArea sc) ≡ filesAt
-  before-files = rw (length-append ((head sc ++ typeArea sc) ++ groupArea sc) (rowArea sc), before-rows, length-rowArea)
+  before-files : length (((counts sc ++ typeArea sc) ++ groupArea sc) ++ rowArea sc) ≡ filesAt
+  before-files = rw (length-append ((counts sc ++ typeArea sc) ++ groupArea sc) (rowArea sc), before-rows, length-rowArea)
+
+  -- the table from each area on
+  pub from-types : drop typesAt (encodeSchema sc) ≡ typeArea sc ++ (groupArea sc ++ (rowArea sc ++ fileArea sc))
+  unfolding encodeSchema
+  from-types = refl
+
+  pub from-groups : drop groupsAt (encodeSchema sc) ≡ groupArea sc ++ (rowArea sc ++ fileArea sc)
+  from-groups = ap (drop groupsAt) (cut-groups sc) ∙ drop-at (counts sc ++ typeArea sc) _ groupsAt before-groups
+
+  pub from-rows : drop rowsAt (encodeSchema sc) ≡ rowArea sc ++ fileArea sc
+  from-rows = ap (drop rowsAt) (cut-rows sc) ∙ drop-at ((counts sc ++ typeArea sc) ++ groupArea sc) _ rowsAt before-rows
+
+  pub from-files : drop filesAt (encodeSchema sc) ≡ fileArea sc ++ []
+  from-files =
+      ap (drop filesAt) (cut-files sc) ∙ drop-at (((counts sc ++ typeArea sc) ++ groupArea sc) ++ rowArea sc) _ filesAt before-files
+      ∙ sym (append-nil (fileArea sc))
 
   -- ---- the table
 
   pub schema-size : length (encodeSchema sc) ≡ schemaSize
   schema-size =
-      rw (cut-files sc, length-append (((head sc ++ typeArea sc) ++ groupArea sc) ++ rowArea sc) (fileArea sc), before-files, length-fileArea)
+      rw (cut-files sc, length-append (((counts sc ++ typeArea sc) ++ groupArea sc) ++ rowArea sc) (fileArea sc), before-files, length-fileArea)
 
   pub schema-back : schemaOf (encodeSchema sc) ≡ sc
   unfolding encodeSchema schemaOf
   schema-back =
       let rest : List ℕ = groupArea sc ++ (rowArea sc ++ fileArea sc) in
-      let t : rowsOf 3 (length (sc .types)) cellsType (typeArea sc ++ rest) ≡ sc .types =
-      cells-back 3 typeCells wide-type cellsType typeLimit (sc .types) rest
+      let t : rowsOf typeWidth (length (sc .types)) cellsType (typeArea sc ++ rest) ≡ sc .types =
+      cells-back typeWidth typeCells wide-type cellsType typeLimit (sc .types) rest
       (each-all (λ (r : TypeRow). cellsType (typeCells r) ≡ r) (sc .types) type-back)
       in
       let d : drop typesArea (typeArea sc ++ rest) ≡ rest = drop-at (typeArea sc) rest typesArea length-typeArea in
       let d2 : drop groupsArea rest ≡ rowArea sc ++ fileArea sc = drop-at (groupArea sc) (rowArea sc ++ fileArea sc) groupsArea length-groupArea in
       let d3 : drop rowsArea (rowArea sc ++ fileArea sc) ≡ fileArea sc = drop-at (rowArea sc) (fileArea sc) rowsArea length-rowArea in
-      let g : rowsOf 6 (length (sc .groups)) cellsGroup rest ≡ sc .groups =
-      cells-back 6 groupCells wide-group cellsGroup groupLimit (sc .groups) (rowArea sc ++ fileArea sc)
+      let g : rowsOf groupWidth (length (sc .groups)) cellsGroup rest ≡ sc .groups =
+      cells-back groupWidth groupCells wide-group cellsGroup groupLimit (sc .groups) (rowArea sc ++ fileArea sc)
       (each-imp GroupFits (λ (g : Group). cellsGroup (groupCells g) ≡ g) (sc .groups) group-back (s .groupPaths))
       in
-      let r : rowsOf 9 (length (sc .subElements)) cellsSubElement (rowArea sc ++ fileArea sc) ≡ sc .subElements =
-      cells-back 9 subElementCells wide-row cellsSubElement rowLimit (sc .subElements) (fileArea sc)
+      let r : rowsOf rowWidth (length (sc .subElements)) cellsSubElement (rowArea sc ++ fileArea sc) ≡ sc .subElements =
+      cells-back rowWidth subElementCells wide-row cellsSubElement rowLimit (sc .subElements) (fileArea sc)
       (each-imp RowFits (λ (r : SubElement). cellsSubElement (subElementCells r) ≡ r) (sc .subElements) row-back (s .rowPaths))
       in
-      let f : rowsOf 2 (length (sc .files)) cellsFile (fileArea sc) ≡ sc .files =
-      last-back 2 fileCells wide-file cellsFile fileLimit (sc .files)
+      let f : rowsOf fileWidth (length (sc .files)) cellsFile (fileArea sc) ≡ sc .files =
+      last-back fileWidth fileCells wide-file cellsFile fileLimit (sc .files)
       (each-all (λ (f : File). cellsFile (fileCells f) ≡ f) (sc .files) (λ f. refl))
       in
       rw (d, d2, d3) (λ i. record { types = t i; groups = g i; subElements = r i; files = f i })
@@ -265,36 +281,36 @@ module _ (xs : List ℕ) (g : GoodSchema xs) where
   unfolding encodeSchema
   file-count = ap (λ (l : List ℕ). getD l 3 0) (g .raw)
 
-  pub type-cell : (i j : ℕ) → i < length (schemaOf xs .types) → j < 3
-      → getD xs (typesAt + (i * 3 + j)) 0 ≡ getD (typeCells (typeRow (schemaOf xs) i)) j 0
+  pub type-cell : (i j : ℕ) → i < length (schemaOf xs .types) → j < typeWidth
+      → getD xs (typesAt + (i * typeWidth + j)) 0 ≡ getD (typeCells (typeRow (schemaOf xs) i)) j 0
   type-cell i j h k =
       let sc : Schema = schemaOf xs in
-      ap (λ (l : List ℕ). getD l (typesAt + (i * 3 + j)) 0) (g .raw ∙ cut-types sc)
-      ∙ read-row 3 typeCells wide-type (head sc) (groupArea sc ++ (rowArea sc ++ fileArea sc)) typesAt typeLimit (sc .types) i j noType
+      ap (λ (l : List ℕ). getD l (typesAt + (i * typeWidth + j)) 0) (g .raw ∙ cut-types sc)
+      ∙ read-row typeWidth typeCells wide-type (counts sc) (groupArea sc ++ (rowArea sc ++ fileArea sc)) typesAt typeLimit (sc .types) i j noType
       refl (g .sized .typeCount) h k
 
-  pub group-cell : (i j : ℕ) → i < length (schemaOf xs .groups) → j < 6
-      → getD xs (groupsAt + (i * 6 + j)) 0 ≡ getD (groupCells (getD (schemaOf xs .groups) i noGroup)) j 0
+  pub group-cell : (i j : ℕ) → i < length (schemaOf xs .groups) → j < groupWidth
+      → getD xs (groupsAt + (i * groupWidth + j)) 0 ≡ getD (groupCells (getD (schemaOf xs .groups) i noGroup)) j 0
   group-cell i j h k =
       let sc : Schema = schemaOf xs in
-      ap (λ (l : List ℕ). getD l (groupsAt + (i * 6 + j)) 0) (g .raw ∙ cut-groups sc)
-      ∙ read-row 6 groupCells wide-group (head sc ++ typeArea sc) (rowArea sc ++ fileArea sc) groupsAt groupLimit (sc .groups) i j noGroup
+      ap (λ (l : List ℕ). getD l (groupsAt + (i * groupWidth + j)) 0) (g .raw ∙ cut-groups sc)
+      ∙ read-row groupWidth groupCells wide-group (counts sc ++ typeArea sc) (rowArea sc ++ fileArea sc) groupsAt groupLimit (sc .groups) i j noGroup
       (before-groups sc (g .sized)) (g .sized .groupCount) h k
 
-  pub row-cell : (i j : ℕ) → i < length (schemaOf xs .subElements) → j < 9
-      → getD xs (rowsAt + (i * 9 + j)) 0 ≡ getD (subElementCells (getD (schemaOf xs .subElements) i noSubElement)) j 0
+  pub row-cell : (i j : ℕ) → i < length (schemaOf xs .subElements) → j < rowWidth
+      → getD xs (rowsAt + (i * rowWidth + j)) 0 ≡ getD (subElementCells (getD (schemaOf xs .subElements) i noSubElement)) j 0
   row-cell i j h k =
       let sc : Schema = schemaOf xs in
-      ap (λ (l : List ℕ). getD l (rowsAt + (i * 9 + j)) 0) (g .raw ∙ cut-rows sc)
-      ∙ read-row 9 subElementCells wide-row ((head sc ++ typeArea sc) ++ groupArea sc) (fileArea sc) rowsAt rowLimit (sc .subElements) i j noSubElement
+      ap (λ (l : List ℕ). getD l (rowsAt + (i * rowWidth + j)) 0) (g .raw ∙ cut-rows sc)
+      ∙ read-row rowWidth subElementCells wide-row ((counts sc ++ typeArea sc) ++ groupArea sc) (fileArea sc) rowsAt rowLimit (sc .subElements) i j noSubElement
       (before-rows sc (g .sized)) (g .sized .rowCount) h k
 
-  pub file-cell : (i j : ℕ) → i < length (schemaOf xs .files) → j < 2
-      → getD xs (filesAt + (i * 2 + j)) 0 ≡ getD (fileCells (getD (schemaOf xs .files) i noFile)) j 0
+  pub file-cell : (i j : ℕ) → i < length (schemaOf xs .files) → j < fileWidth
+      → getD xs (filesAt + (i * fileWidth + j)) 0 ≡ getD (fileCells (getD (schemaOf xs .files) i noFile)) j 0
   file-cell i j h k =
       let sc : Schema = schemaOf xs in
-      ap (λ (l : List ℕ). getD l (filesAt + (i * 2 + j)) 0) (g .raw ∙ cut-files sc)
-      ∙ read-last 2 fileCells wide-file (((head sc ++ typeArea sc) ++ groupArea sc) ++ rowArea sc) filesAt fileLimit (sc .files) i j noFile
+      ap (λ (l : List ℕ). getD l (filesAt + (i * fileWidth + j)) 0) (g .raw ∙ cut-files sc)
+      ∙ read-last fileWidth fileCells wide-file (((counts sc ++ typeArea sc) ++ groupArea sc) ++ rowArea sc) filesAt fileLimit (sc .files) i j noFile
       (before-files sc (g .sized)) (g .sized .fileCount) h k
 
   pub named-is : (t c : ℕ) → c ≡ boolNumber (typeRow (schemaOf xs) t .named) → boolFrom c ≡ typeRow (schemaOf xs) t .named
@@ -313,55 +329,19 @@ module _ (xs : List ℕ) (g : GoodSchema xs) where
 
 -- ---- stores: one row more, and the count
 
-module _ (sc : Schema) (s : SizedSchema sc) where
-  add-type-cells : (r : TypeRow) → length (sc .types) < typeLimit
-      → set (puts (encodeSchema sc) (typesAt + length (sc .types) * 3) (typeCells r)) 0 (length (sc .types) + 1) ≡ encodeSchema (addType sc r)
-  unfolding addType
-  add-type-cells r h =
-      ap (λ (l : List ℕ). set (puts l (typesAt + length (sc .types) * 3) (typeCells r)) 0 (length (sc .types) + 1)) (cut-types sc)
-      ∙ ap (λ (l : List ℕ). set l 0 (length (sc .types) + 1))
-      (append-row 3 typeCells wide-type (head sc) (groupArea sc ++ (rowArea sc ++ fileArea sc)) typesAt typeLimit (sc .types) r refl h)
-      ∙ rw (← length-append (sc .types) (r ∷ [])) (sym (cut-types (addType sc r)))
-
-  add-group-cells : (r : Group) → length (sc .groups) < groupLimit
-      → set (puts (encodeSchema sc) (groupsAt + length (sc .groups) * 6) (groupCells r)) 1 (length (sc .groups) + 1) ≡ encodeSchema (addGroup sc r)
-  unfolding addGroup
-  add-group-cells r h =
-      ap (λ (l : List ℕ). set (puts l (groupsAt + length (sc .groups) * 6) (groupCells r)) 1 (length (sc .groups) + 1)) (cut-groups sc)
-      ∙ ap (λ (l : List ℕ). set l 1 (length (sc .groups) + 1))
-      (append-row 6 groupCells wide-group (head sc ++ typeArea sc) (rowArea sc ++ fileArea sc) groupsAt groupLimit (sc .groups) r (before-groups sc s) h)
-      ∙ rw (← length-append (sc .groups) (r ∷ [])) (sym (cut-groups (addGroup sc r)))
-
-  add-row-cells : (r : SubElement) → length (sc .subElements) < rowLimit
-      → set (puts (encodeSchema sc) (rowsAt + length (sc .subElements) * 9) (subElementCells r)) 2 (length (sc .subElements) + 1)
-      ≡ encodeSchema (addSubElement sc r)
-  unfolding addSubElement
-  add-row-cells r h =
-      ap (λ (l : List ℕ). set (puts l (rowsAt + length (sc .subElements) * 9) (subElementCells r)) 2 (length (sc .subElements) + 1)) (cut-rows sc)
-      ∙ ap (λ (l : List ℕ). set l 2 (length (sc .subElements) + 1))
-      (append-row 9 subElementCells wide-row ((head sc ++ typeArea sc) ++ groupArea sc) (fileArea sc) rowsAt rowLimit (sc .subElements) r (before-rows sc s) h)
-      ∙ rw (← length-append (sc .subElements) (r ∷ [])) (sym (cut-rows (addSubElement sc r)))
-
-  add-file-cells : (r : File) → length (sc .files) < fileLimit
-      → set (puts (encodeSchema sc) (filesAt + length (sc .files) * 2) (fileCells r)) 3 (length (sc .files) + 1) ≡ encodeSchema (addFile sc r)
-  unfolding addFile
-  add-file-cells r h =
-      ap (λ (l : List ℕ). set (puts l (filesAt + length (sc .files) * 2) (fileCells r)) 3 (length (sc .files) + 1)) (cut-files sc)
-      ∙ ap (λ (l : List ℕ). set l 3 (length (sc .files) + 1))
-      (append-last 2 fileCells wide-file (((head sc ++ typeArea sc) ++ groupArea sc) ++ rowArea sc) filesAt fileLimit (sc .files) r (before-files sc s) h)
-      ∙ rw (← length-append (sc .files) (r ∷ [])) (sym (cut-files (addFile sc r)))
-
 -- in each, m is the count, vs the row's cells, and ys the table with them behind the last row
 module _ (xs : List ℕ) (g : GoodSchema xs) (m : ℕ) (vs ys : List ℕ) where
   pub added-type : (r : TypeRow) → length (schemaOf xs .types) < typeLimit → m ≡ length (schemaOf xs .types) → typeCells r ≡ vs
-      → ys ≡ puts xs (typesAt + m * 3) vs → HoldsSchema (set ys 0 (m + 1)) (addType (schemaOf xs) r)
+      → ys ≡ puts xs (typesAt + m * typeWidth) vs → HoldsSchema (set ys 0 (m + 1)) (addType (schemaOf xs) r)
   unfolding addType
   added-type r h e v y =
       let sc : Schema = schemaOf xs in
+      let t =
+      appended typeWidth typeCells wide-type xs (counts sc) (groupArea sc ++ (rowArea sc ++ fileArea sc)) ys vs typesAt typeLimit m (sc .types) r
+      (g .raw ∙ cut-types sc) refl h e v y
+      in
       hold-schema (addType sc r) (set ys 0 (m + 1))
-      (rw (y, e, ← v)
-      (ap (λ (l : List ℕ). set (puts l (typesAt + length (sc .types) * 3) (typeCells r)) 0 (length (sc .types) + 1)) (g .raw)
-      ∙ add-type-cells sc (g .sized) r h))
+      (ap (λ (l : List ℕ). set l 0 (m + 1)) t ∙ rw (e, ← length-append (sc .types) (r ∷ [])) (sym (cut-types (addType sc r))))
       (record {
         typeCount = simp length-append (omega arith);
         groupCount = g .sized .groupCount;
@@ -372,14 +352,16 @@ module _ (xs : List ℕ) (g : GoodSchema xs) (m : ℕ) (vs ys : List ℕ) where
       })
 
   pub added-group : (r : Group) → GroupFits r → length (schemaOf xs .groups) < groupLimit → m ≡ length (schemaOf xs .groups) → groupCells r ≡ vs
-      → ys ≡ puts xs (groupsAt + m * 6) vs → HoldsSchema (set ys 1 (m + 1)) (addGroup (schemaOf xs) r)
+      → ys ≡ puts xs (groupsAt + m * groupWidth) vs → HoldsSchema (set ys 1 (m + 1)) (addGroup (schemaOf xs) r)
   unfolding addGroup
   added-group r p h e v y =
       let sc : Schema = schemaOf xs in
+      let t =
+      appended groupWidth groupCells wide-group xs (counts sc ++ typeArea sc) (rowArea sc ++ fileArea sc) ys vs groupsAt groupLimit m (sc .groups) r
+      (g .raw ∙ cut-groups sc) (before-groups sc (g .sized)) h e v y
+      in
       hold-schema (addGroup sc r) (set ys 1 (m + 1))
-      (rw (y, e, ← v)
-      (ap (λ (l : List ℕ). set (puts l (groupsAt + length (sc .groups) * 6) (groupCells r)) 1 (length (sc .groups) + 1)) (g .raw)
-      ∙ add-group-cells sc (g .sized) r h))
+      (ap (λ (l : List ℕ). set l 1 (m + 1)) t ∙ rw (e, ← length-append (sc .groups) (r ∷ [])) (sym (cut-groups (addGroup sc r))))
       (record {
         typeCount = g .sized .typeCount;
         groupCount = simp length-append (omega arith);
@@ -390,14 +372,16 @@ module _ (xs : List ℕ) (g : GoodSchema xs) (m : ℕ) (vs ys : List ℕ) where
       })
 
   pub added-row : (r : SubElement) → RowFits r → length (schemaOf xs .subElements) < rowLimit → m ≡ length (schemaOf xs .subElements)
-      → subElementCells r ≡ vs → ys ≡ puts xs (rowsAt + m * 9) vs → HoldsSchema (set ys 2 (m + 1)) (addSubElement (schemaOf xs) r)
+      → subElementCells r ≡ vs → ys ≡ puts xs (rowsAt + m * rowWidth) vs → HoldsSchema (set ys 2 (m + 1)) (addSubElement (schemaOf xs) r)
   unfolding addSubElement
   added-row r p h e v y =
       let sc : Schema = schemaOf xs in
+      let t =
+      appended rowWidth subElementCells wide-row xs ((counts sc ++ typeArea sc) ++ groupArea sc) (fileArea sc) ys vs rowsAt rowLimit m (sc .subElements) r
+      (g .raw ∙ cut-rows sc) (before-rows sc (g .sized)) h e v y
+      in
       hold-schema (addSubElement sc r) (set ys 2 (m + 1))
-      (rw (y, e, ← v)
-      (ap (λ (l : List ℕ). set (puts l (rowsAt + length (sc .subElements) * 9) (subElementCells r)) 2 (length (sc .subElements) + 1)) (g .raw)
-      ∙ add-row-cells sc (g .sized) r h))
+      (ap (λ (l : List ℕ). set l 2 (m + 1)) t ∙ rw (e, ← length-append (sc .subElements) (r ∷ [])) (sym (cut-rows (addSubElement sc r))))
       (record {
         typeCount = g .sized .typeCount;
         groupCount = g .sized .groupCount;
@@ -408,14 +392,16 @@ module _ (xs : List ℕ) (g : GoodSchema xs) (m : ℕ) (vs ys : List ℕ) where
       })
 
   pub added-file : (r : File) → length (schemaOf xs .files) < fileLimit → m ≡ length (schemaOf xs .files) → fileCells r ≡ vs
-      → ys ≡ puts xs (filesAt + m * 2) vs → HoldsSchema (set ys 3 (m + 1)) (addFile (schemaOf xs) r)
+      → ys ≡ puts xs (filesAt + m * fileWidth) vs → HoldsSchema (set ys 3 (m + 1)) (addFile (schemaOf xs) r)
   unfolding addFile
   added-file r h e v y =
       let sc : Schema = schemaOf xs in
+      let t =
+      appended-last fileWidth fileCells wide-file xs (((counts sc ++ typeArea sc) ++ groupArea sc) ++ rowArea sc) ys vs filesAt fileLimit m (sc .files) r
+      (g .raw ∙ cut-files sc) (before-files sc (g .sized)) h e v y
+      in
       hold-schema (addFile sc r) (set ys 3 (m + 1))
-      (rw (y, e, ← v)
-      (ap (λ (l : List ℕ). set (puts l (filesAt + length (sc .files) * 2) (fileCells r)) 3 (length (sc .files) + 1)) (g .raw)
-      ∙ add-file-cells sc (g .sized) r h))
+      (ap (λ (l : List ℕ). set l 3 (m + 1)) t ∙ rw (e, ← length-append (sc .files) (r ∷ [])) (sym (cut-files (addFile sc r))))
       (record {
         typeCount = g .sized .typeCount;
         groupCount = g .sized .groupCount;

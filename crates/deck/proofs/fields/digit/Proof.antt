@@ -3,9 +3,6 @@ use native.Mathlib.Omega.{arith}
 use Rattle.deck.proofs.Laws.Numbers.{digit-below, digit-decimal, digit-between, digit-letter, digit-above}
 use Rattle.deck.proofs.fields.digit.Statement.{statement}
 use Rattle.deck.proofs.fields.digit.Tie as tie
-use Rattle.deck.proofs.fields.digit.Reads as reads
-use Rattle.deck.proofs.fields.digit.Lts as lts
-use Rattle.deck.proofs.fields.wide.Reads as wide-reads
 
 returns : tie.Need-returns
 returns c = omega (arith, digit-below (c .before .before .args .b) (omega arith))

@@ -4,8 +4,6 @@ use Rattle.deck.specs.Answers.{numIs, textIs}
 use borrow.Author.Needs.{needs}
 use Rattle.deck.proofs.fields.number_text.Statement.{statement}
 use Rattle.deck.proofs.fields.number_text.Tie as tie
-use Rattle.deck.proofs.fields.number_text.Reads as reads
-use Rattle.deck.proofs.fields.number_text.Lts as lts
 
 returns : tie.Need-returns
 unfolding textIs numIs bind

@@ -1,4 +1,6 @@
-use Rattle.deck.specs.Answers.{whole, between}
+use Rattle.tables.specs.Cells.{between}
+use Rattle.tables.specs.Limits.{partLimit}
+use Rattle.deck.specs.Answers.{whole}
 use mathlib.Core.Path.{refl, sym, _∙_, ap}
 use Prim.Native.Nat.{_-_}
 use native.Mathlib.Omega.{arith}
@@ -9,11 +11,6 @@ use Rattle.deck.proofs.Laws.PathFields.{PathReading, path-start, path-b
 use borrow.Author.Needs.{needs}
 use Rattle.deck.proofs.fields.path_field.Statement.{statement}
 use Rattle.deck.proofs.fields.path_field.Tie as tie
-use Rattle.deck.proofs.fields.path_field.Reads as reads
-use Rattle.deck.proofs.fields.path_field.Lts as lts
-use Rattle.deck.proofs.fields.find_byte.Reads as find-byte-reads
-use Rattle.deck.proofs.fields.number.Reads as number-reads
-use Rattle.deck.proofs.fields.with_part.Reads as with-part-reads
 
 abbrev Inv-loop : tie.InvT-loop
 Inv-loop deck start end most p₀ n₀ at₀ p n at = PathReading deck start end most p n at
@@ -27,23 +24,39 @@ loop-holds c = path-start (c .before .args .deck .now) (c .before .args .start) 
 
 returns : tie.Need-returns Inv-loop μ-loop
 unfolding pathIs numIs
-returns c = record { is = sym (path-bad (c .before .before .before .before .before .before .before .before .args .deck .now) (c .before .before .before .before .before .before .before .before .args .start) (c .before .before .before .before .before .before .before .before .args .end) (c .before .before .before .before .before .before .before .before .args .most) (c .before .before .before .before .before .before .loop .p) (c .before .before .before .before .before .before .loop .n) (c .before .before .before .before .before .before .loop .at) (c .before .before .before .before .find-byte .result) (omega arith) (c .before .before .before .before .before .before .loop .inv) (omega arith) (c .before .before .before .before .find-byte .ensures) (sym (c .before .before .number .ensures) ∙ ap numIs (c .enum-told .given .1))); fits = tt }
+returns c =
+    let l = c .before .before .before .before .before .before in
+    let s = l .before .before in
+    record { is = sym (path-bad (s .args .deck .now) (s .args .start) (s .args .end) (s .args .most) (l .loop .p) (l .loop .n) (l .loop .at) (c .before .before .before .before .find-byte .result) (omega arith) (l .loop .inv) (omega arith) (c .before .before .before .before .find-byte .ensures) (sym (c .before .before .number .ensures) ∙ ap numIs (c .enum-told .given .1))); fits = tt }
 
 with-part-requires : tie.Need-with-part-requires Inv-loop μ-loop
 unfolding numIs
-with-part-requires c κs = (c .before .before .before .before .before .before .before .loop .inv .size, omega arith, omega (arith, number-most 10 255 (whole (between (c .before .before .before .before .before .before .before .before .before .args .deck .now) (c .before .before .before .before .before .before .before .loop .at) (c .before .before .before .before .before .find-byte .result))) (c .before .v .given .0 .0) (sym (c .before .before .before .number .ensures) ∙ ap numIs (c .before .v .given .1))))
+with-part-requires c κs =
+    let l = c .before .before .before .before .before .before .before in
+    let s = l .before .before in
+    (l .loop .inv .size, omega arith, omega (arith, number-most 10 partLimit (whole (between (l .loop .at) (c .before .before .before .before .before .find-byte .result) (s .args .deck .now))) (c .before .v .given .0 .0) (sym (c .before .before .before .number .ensures) ∙ ap numIs (c .before .v .given .1))))
 
 returns-2 : tie.Need-returns-2 Inv-loop μ-loop
 unfolding pathIs numIs
-returns-2 c = record { is = sym (path-last (c .before .before .before .before .before .before .before .before .before .before .before .args .deck .now) (c .before .before .before .before .before .before .before .before .before .before .before .args .start) (c .before .before .before .before .before .before .before .before .before .before .before .args .end) (c .before .before .before .before .before .before .before .before .before .before .before .args .most) (c .before .before .before .before .before .before .before .before .before .loop .p) (c .before .before .before .before .before .before .before .before .before .loop .n) (c .before .before .before .before .before .before .before .before .before .loop .at) (c .before .before .before .before .before .before .before .find-byte .result) (omega arith) (c .before .before .before .before .before .before .before .before .before .loop .inv) (omega arith) (c .before .before .before .before .before .before .before .find-byte .ensures) (c .before .before .before .v .given .0 .0) (sym (c .before .before .before .before .before .number .ensures) ∙ ap numIs (c .before .before .before .v .given .1)) (c .before .with-part .result) (c .before .with-part .ensures .is) (c .if1 .taken)); fits = c .before .with-part .ensures .fits }
+returns-2 c =
+    let v = c .before .before .before in
+    let l = v .before .before .before .before .before .before in
+    let s = l .before .before in
+    record { is = sym (path-last (s .args .deck .now) (s .args .start) (s .args .end) (s .args .most) (l .loop .p) (l .loop .n) (l .loop .at) (v .before .before .before .before .find-byte .result) (omega arith) (l .loop .inv) (omega arith) (v .before .before .before .before .find-byte .ensures) (v .v .given .0 .0) (sym (v .before .before .number .ensures) ∙ ap numIs (v .v .given .1)) (c .before .with-part .result) (c .before .with-part .ensures .is) (c .if1 .taken)); fits = c .before .with-part .ensures .fits }
 
 loop-again : tie.Need-loop-again Inv-loop μ-loop
 unfolding numIs
-loop-again c = path-turn (c .before .before .before .before .before .before .before .before .before .before .before .args .deck .now) (c .before .before .before .before .before .before .before .before .before .before .before .args .start) (c .before .before .before .before .before .before .before .before .before .before .before .args .end) (c .before .before .before .before .before .before .before .before .before .before .before .args .most) (c .before .before .before .before .before .before .before .before .before .loop .p) (c .before .before .before .before .before .before .before .before .before .loop .n) (c .before .before .before .before .before .before .before .before .before .loop .at) (c .before .before .before .before .before .before .before .find-byte .result) (omega arith) (c .before .before .before .before .before .before .before .before .before .loop .inv) (omega arith) (c .before .before .before .before .before .before .before .find-byte .ensures) (c .before .before .before .v .given .0 .0) (sym (c .before .before .before .before .before .number .ensures) ∙ ap numIs (c .before .before .before .v .given .1)) (c .before .with-part .result) (c .before .with-part .ensures .is) (omega arith)
+loop-again c =
+    let v = c .before .before .before in
+    let l = v .before .before .before .before .before .before in
+    let s = l .before .before in
+    path-turn (s .args .deck .now) (s .args .start) (s .args .end) (s .args .most) (l .loop .p) (l .loop .n) (l .loop .at) (v .before .before .before .before .find-byte .result) (omega arith) (l .loop .inv) (omega arith) (v .before .before .before .before .find-byte .ensures) (v .v .given .0 .0) (sym (v .before .before .number .ensures) ∙ ap numIs (v .v .given .1)) (c .before .with-part .result) (c .before .with-part .ensures .is) (omega arith)
 
 returns-3 : tie.Need-returns-3 Inv-loop μ-loop
 unfolding pathIs
-returns-3 c = record { is = sym (path-full (c .before .before .before .args .deck .now) (c .before .before .before .args .start) (c .before .before .before .args .end) (c .before .before .before .args .most) (c .before .loop .p) (c .before .loop .n) (c .before .loop .at) (c .before .loop .inv) (omega arith)); fits = tt }
+returns-3 c =
+    let s = c .before .before .before in
+    record { is = sym (path-full (s .args .deck .now) (s .args .start) (s .args .end) (s .args .most) (c .before .loop .p) (c .before .loop .n) (c .before .loop .at) (c .before .loop .inv) (omega arith)); fits = tt }
 
 pub path-field-spec : {M : Type 1} → statement M
 path-field-spec =

@@ -3,8 +3,6 @@ use Rattle.deck.proofs.Laws.Numbers.{plain-empty, plain-one, plain-zero
 use borrow.Author.Needs.{needs}
 use Rattle.deck.proofs.fields.plain.Statement.{statement}
 use Rattle.deck.proofs.fields.plain.Tie as tie
-use Rattle.deck.proofs.fields.plain.Reads as reads
-use Rattle.deck.proofs.fields.plain.Lts as lts
 
 returns : tie.Need-returns
 returns c = sym (plain-empty (c .before .args .s .now) (c .if1 .taken))

@@ -6,9 +6,6 @@ use Rattle.deck.proofs.Laws.Texts.{string-bad, string-is}
 use borrow.Author.Needs.{needs}
 use Rattle.deck.proofs.fields.string_text.Statement.{statement}
 use Rattle.deck.proofs.fields.string_text.Tie as tie
-use Rattle.deck.proofs.fields.string_text.Reads as reads
-use Rattle.deck.proofs.fields.string_text.Lts as lts
-use Rattle.deck.proofs.fields.all_printable.Reads as all-printable-reads
 
 returns : tie.Need-returns
 unfolding textIs
@@ -16,7 +13,9 @@ returns c = record { is = sym (string-bad (c .before .before .before .before .ar
 
 returns-2 : tie.Need-returns-2
 unfolding textIs
-returns-2 c = record { is = string-is (c .before .before .before .before .args .deck .now) (c .before .before .before .before .args .start) (c .before .before .before .before .args .end) (omega arith) (omega arith) (omega arith) (sym (c .before .all-printable .ensures) ∙ not-false _ (c .if1 .left)); fits = omega arith }
+returns-2 c =
+    let s = c .before .before .before .before in
+    record { is = string-is (s .args .deck .now) (s .args .start) (s .args .end) (omega arith) (omega arith) (omega arith) (sym (c .before .all-printable .ensures) ∙ not-false _ (c .if1 .left)); fits = omega arith }
 
 pub string-text-spec : {M : Type 1} → statement M
 string-text-spec =

@@ -3,8 +3,6 @@ use Rattle.deck.proofs.Laws.PathFields.{put-0, put-1, put-2, put-3}
 use borrow.Author.Needs.{needs}
 use Rattle.deck.proofs.fields.with_part.Statement.{statement}
 use Rattle.deck.proofs.fields.with_part.Tie as tie
-use Rattle.deck.proofs.fields.with_part.Reads as reads
-use Rattle.deck.proofs.fields.with_part.Lts as lts
 
 returns : tie.Need-returns
 returns c = put-0 (c .before .args .v) (c .before .args .p) (omega arith)

@@ -1,17 +1,11 @@
 use mathlib.Core.Option.{bind}
-use native.Mathlib.Omega.{arith}
-use borrow.Author.Tests.{eq-eqb, ne-eqb, lt-ltb, le-ltb}
+use borrow.Author.Tests.{eq-eqb, ne-eqb}
 use Rattle.deck.specs.Deck.{only, lineC, depthField, decimal}
-use Rattle.deck.specs.Answers.{numIs, pathIs, textIs, lineIs}
-use Rattle.deck.proofs.Laws.Numbers.{read-most}
+use Rattle.deck.specs.Answers.{numIs, textIs, lineIs}
 use Rattle.deck.proofs.Laws.Lines.{fields-count}
 use borrow.Author.Needs.{needs}
 use Rattle.deck.proofs.lines.line_c.Statement.{statement}
 use Rattle.deck.proofs.lines.line_c.Tie as tie
-use Rattle.deck.proofs.lines.line_c.Reads as reads
-use Rattle.deck.proofs.lines.line_c.Lts as lts
-use Rattle.deck.proofs.lines.number_at.Reads as number-at-reads
-use Rattle.deck.proofs.lines.text_at.Reads as text-at-reads
 
 returns : tie.Need-returns
 unfolding lineIs numIs textIs bind only lineC depthField decimal
@@ -23,11 +17,19 @@ returns-2 c = record { is = rw (← c .before .before .before .before .before .b
 
 returns-3 : tie.Need-returns-3
 unfolding lineIs numIs textIs bind only lineC depthField decimal
-returns-3 c = record { is = rw (← c .before .before .before .before .before .before .before .before .before .number-at .ensures, c .before .before .before .before .before .before .before .depth .given .1, ← c .before .before .before .before .before .text-at .ensures .is, c .before .before .before .kind .given .1, fields-count (c .before .before .before .before .before .before .before .before .before .before .before .args .deck .now) (c .before .before .before .before .before .before .before .before .before .before .before .args .f) (c .before .before .before .before .before .before .before .before .before .before .before .pre .0), ne-eqb _ 4 (c .if1 .taken)); fits = tt }
+returns-3 c =
+    let kind = c .before .before .before in
+    let depth = kind .before .before .before .before in
+    let s = depth .before .before .before .before in
+    record { is = rw (← depth .before .before .number-at .ensures, depth .depth .given .1, ← kind .before .before .text-at .ensures .is, kind .kind .given .1, fields-count (s .args .deck .now) (s .args .f) (s .pre .0), ne-eqb _ 4 (c .if1 .taken)); fits = tt }
 
 returns-4 : tie.Need-returns-4
 unfolding lineIs numIs textIs bind only lineC depthField decimal
-returns-4 c = record { is = rw (← c .before .before .before .before .before .before .before .before .before .number-at .ensures, c .before .before .before .before .before .before .before .depth .given .1, ← c .before .before .before .before .before .text-at .ensures .is, c .before .before .before .kind .given .1, fields-count (c .before .before .before .before .before .before .before .before .before .before .before .args .deck .now) (c .before .before .before .before .before .before .before .before .before .before .before .args .f) (c .before .before .before .before .before .before .before .before .before .before .before .pre .0), eq-eqb _ 4 (c .if1 .left)); fits = rw (c .before .before .before .kind .given .1) at (c .before .before .before .before .before .text-at .ensures .fits) }
+returns-4 c =
+    let kind = c .before .before .before in
+    let depth = kind .before .before .before .before in
+    let s = depth .before .before .before .before in
+    record { is = rw (← depth .before .before .number-at .ensures, depth .depth .given .1, ← kind .before .before .text-at .ensures .is, kind .kind .given .1, fields-count (s .args .deck .now) (s .args .f) (s .pre .0), eq-eqb _ 4 (c .if1 .left)); fits = rw (kind .kind .given .1) at (kind .before .before .text-at .ensures .fits) }
 
 pub line-c-spec : {M : Type 1} → statement M
 line-c-spec =

@@ -1,16 +1,11 @@
 use mathlib.Core.Option.{bind}
-use native.Mathlib.Omega.{arith}
-use borrow.Author.Tests.{eq-eqb, ne-eqb, lt-ltb, le-ltb}
+use borrow.Author.Tests.{eq-eqb, ne-eqb}
 use Rattle.deck.specs.Deck.{only, lineE, depthField, nameField, setField, decimal, hexadecimal}
-use Rattle.deck.specs.Answers.{numIs, pathIs, textIs, lineIs}
-use Rattle.deck.proofs.Laws.Numbers.{read-most}
+use Rattle.deck.specs.Answers.{numIs, lineIs}
 use Rattle.deck.proofs.Laws.Lines.{fields-count}
 use borrow.Author.Needs.{needs}
 use Rattle.deck.proofs.lines.line_e.Statement.{statement}
 use Rattle.deck.proofs.lines.line_e.Tie as tie
-use Rattle.deck.proofs.lines.line_e.Reads as reads
-use Rattle.deck.proofs.lines.line_e.Lts as lts
-use Rattle.deck.proofs.lines.number_at.Reads as number-at-reads
 
 returns : tie.Need-returns
 unfolding lineIs numIs bind only lineE depthField nameField setField decimal hexadecimal
@@ -22,15 +17,28 @@ returns-2 c = record { is = rw (← c .before .before .before .before .before .b
 
 returns-3 : tie.Need-returns-3
 unfolding lineIs numIs bind only lineE depthField nameField setField decimal hexadecimal
-returns-3 c = record { is = rw (← c .before .before .before .before .before .before .before .before .before .before .number-at .ensures, c .before .before .before .before .before .before .before .before .depth .given .1, ← c .before .before .before .before .before .before .number-at2 .ensures, c .before .before .before .before .name .given .1, ← c .before .before .number-at3 .ensures, c .enum-told3 .given .1); fits = tt }
+returns-3 c =
+    let name = c .before .before .before .before in
+    let depth = name .before .before .before .before in
+    record { is = rw (← depth .before .before .number-at .ensures, depth .depth .given .1, ← name .before .before .number-at2 .ensures, name .name .given .1, ← c .before .before .number-at3 .ensures, c .enum-told3 .given .1); fits = tt }
 
 returns-4 : tie.Need-returns-4
 unfolding lineIs numIs bind only lineE depthField nameField setField decimal hexadecimal
-returns-4 c = record { is = rw (← c .before .before .before .before .before .before .before .before .before .before .before .before .before .number-at .ensures, c .before .before .before .before .before .before .before .before .before .before .before .depth .given .1, ← c .before .before .before .before .before .before .before .before .before .number-at2 .ensures, c .before .before .before .before .before .before .before .name .given .1, ← c .before .before .before .before .before .number-at3 .ensures, c .before .before .before .set .given .1, fields-count (c .before .before .before .before .before .before .before .before .before .before .before .before .before .before .before .args .deck .now) (c .before .before .before .before .before .before .before .before .before .before .before .before .before .before .before .args .f) (c .before .before .before .before .before .before .before .before .before .before .before .before .before .before .before .pre), ne-eqb _ 4 (c .if1 .taken)); fits = tt }
+returns-4 c =
+    let set = c .before .before .before in
+    let name = set .before .before .before .before in
+    let depth = name .before .before .before .before in
+    let s = depth .before .before .before .before in
+    record { is = rw (← depth .before .before .number-at .ensures, depth .depth .given .1, ← name .before .before .number-at2 .ensures, name .name .given .1, ← set .before .before .number-at3 .ensures, set .set .given .1, fields-count (s .args .deck .now) (s .args .f) (s .pre), ne-eqb _ 4 (c .if1 .taken)); fits = tt }
 
 returns-5 : tie.Need-returns-5
 unfolding lineIs numIs bind only lineE depthField nameField setField decimal hexadecimal
-returns-5 c = record { is = rw (← c .before .before .before .before .before .before .before .before .before .before .before .before .before .number-at .ensures, c .before .before .before .before .before .before .before .before .before .before .before .depth .given .1, ← c .before .before .before .before .before .before .before .before .before .number-at2 .ensures, c .before .before .before .before .before .before .before .name .given .1, ← c .before .before .before .before .before .number-at3 .ensures, c .before .before .before .set .given .1, fields-count (c .before .before .before .before .before .before .before .before .before .before .before .before .before .before .before .args .deck .now) (c .before .before .before .before .before .before .before .before .before .before .before .before .before .before .before .args .f) (c .before .before .before .before .before .before .before .before .before .before .before .before .before .before .before .pre), eq-eqb _ 4 (c .if1 .left)); fits = tt }
+returns-5 c =
+    let set = c .before .before .before .before in
+    let name = set .before .before .before .before in
+    let depth = name .before .before .before .before in
+    let s = depth .before .before .before .before in
+    record { is = rw (← depth .before .before .number-at .ensures, depth .depth .given .1, ← name .before .before .number-at2 .ensures, name .name .given .1, ← set .before .before .number-at3 .ensures, set .set .given .1, fields-count (s .args .deck .now) (s .args .f) (s .pre), eq-eqb _ 4 (c .before .if1 .left), c .from-bits .ensures); fits = tt }
 
 pub line-e-spec : {M : Type 1} → statement M
 line-e-spec =
@@ -49,4 +57,5 @@ line-e-spec =
     (λ c. search needs)
     returns-3
     returns-4
+    (λ c κs. search needs)
     returns-5)

@@ -1,16 +1,15 @@
+use Prim.Native.Nat.{_-_}
+use Rattle.tables.specs.Limits.{fileLimit, versionLimit}
 use mathlib.Core.Option.{bind}
 use native.Mathlib.Omega.{arith}
-use borrow.Author.Tests.{eq-eqb, ne-eqb, lt-ltb, le-ltb}
+use borrow.Author.Tests.{eq-eqb, ne-eqb}
 use Rattle.deck.specs.Deck.{only, lineF, fileField, decimal}
-use Rattle.deck.specs.Answers.{numIs, pathIs, textIs, lineIs}
+use Rattle.deck.specs.Answers.{numIs, lineIs}
 use Rattle.deck.proofs.Laws.Numbers.{read-most}
 use Rattle.deck.proofs.Laws.Lines.{fields-count}
 use borrow.Author.Needs.{needs}
 use Rattle.deck.proofs.lines.line_f.Statement.{statement}
 use Rattle.deck.proofs.lines.line_f.Tie as tie
-use Rattle.deck.proofs.lines.line_f.Reads as reads
-use Rattle.deck.proofs.lines.line_f.Lts as lts
-use Rattle.deck.proofs.lines.number_at.Reads as number-at-reads
 
 returns : tie.Need-returns
 unfolding lineIs numIs bind only lineF fileField decimal
@@ -22,11 +21,19 @@ returns-2 c = record { is = rw (← c .before .before .before .before .before .b
 
 returns-3 : tie.Need-returns-3
 unfolding lineIs numIs bind only lineF fileField decimal
-returns-3 c = record { is = rw (← c .before .before .before .before .before .before .before .before .before .number-at .ensures, c .before .before .before .before .before .before .before .file .given .1, ← c .before .before .before .before .before .number-at2 .ensures, c .before .before .before .version .given .1, fields-count (c .before .before .before .before .before .before .before .before .before .before .before .args .deck .now) (c .before .before .before .before .before .before .before .before .before .before .before .args .f) (c .before .before .before .before .before .before .before .before .before .before .before .pre), ne-eqb _ 3 (c .if1 .taken)); fits = tt }
+returns-3 c =
+    let version = c .before .before .before in
+    let file = version .before .before .before .before in
+    let s = file .before .before .before .before in
+    record { is = rw (← file .before .before .number-at .ensures, file .file .given .1, ← version .before .before .number-at2 .ensures, version .version .given .1, fields-count (s .args .deck .now) (s .args .f) (s .pre), ne-eqb _ 3 (c .if1 .taken)); fits = tt }
 
 returns-4 : tie.Need-returns-4
 unfolding lineIs numIs bind only lineF fileField decimal
-returns-4 c = record { is = rw (← c .before .before .before .before .before .before .before .before .before .number-at .ensures, c .before .before .before .before .before .before .before .file .given .1, ← c .before .before .before .before .before .number-at2 .ensures, c .before .before .before .version .given .1, fields-count (c .before .before .before .before .before .before .before .before .before .before .before .args .deck .now) (c .before .before .before .before .before .before .before .before .before .before .before .args .f) (c .before .before .before .before .before .before .before .before .before .before .before .pre), eq-eqb _ 3 (c .if1 .left)); fits = (omega (arith, read-most 10 63 _ _ _ (c .before .before .before .before .before .before .before .before .before .number-at .ensures) (c .before .before .before .before .before .before .before .file .given .1)), omega (arith, read-most 10 31 _ _ _ (c .before .before .before .before .before .number-at2 .ensures) (c .before .before .before .version .given .1))) }
+returns-4 c =
+    let version = c .before .before .before in
+    let file = version .before .before .before .before in
+    let s = file .before .before .before .before in
+    record { is = rw (← file .before .before .number-at .ensures, file .file .given .1, ← version .before .before .number-at2 .ensures, version .version .given .1, fields-count (s .args .deck .now) (s .args .f) (s .pre), eq-eqb _ 3 (c .if1 .left)); fits = (omega (arith, read-most 10 (fileLimit - 1) _ _ _ (file .before .before .number-at .ensures) (file .file .given .1)), omega (arith, read-most 10 (versionLimit - 1) _ _ _ (version .before .before .number-at2 .ensures) (version .version .given .1))) }
 
 pub line-f-spec : {M : Type 1} → statement M
 line-f-spec =

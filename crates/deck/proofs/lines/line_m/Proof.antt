@@ -2,11 +2,8 @@ use borrow.Author.Tests.{eq-eqb, ne-eqb}
 use Rattle.deck.specs.Deck.{lineM, only}
 use Rattle.deck.specs.Answers.{lineIs}
 use Rattle.deck.proofs.Laws.Lines.{fields-count}
-use borrow.Author.Needs.{needs}
 use Rattle.deck.proofs.lines.line_m.Statement.{statement}
 use Rattle.deck.proofs.lines.line_m.Tie as tie
-use Rattle.deck.proofs.lines.line_m.Reads as reads
-use Rattle.deck.proofs.lines.line_m.Lts as lts
 
 returns : tie.Need-returns
 unfolding lineIs lineM only

@@ -4,10 +4,6 @@ use Rattle.deck.specs.Deck.{pathField}
 use borrow.Author.Needs.{needs}
 use Rattle.deck.proofs.lines.path_at.Statement.{statement}
 use Rattle.deck.proofs.lines.path_at.Tie as tie
-use Rattle.deck.proofs.lines.path_at.Reads as reads
-use Rattle.deck.proofs.lines.path_at.Lts as lts
-use Rattle.deck.proofs.fields.path_field.Reads as path-field-reads
-use Rattle.deck.proofs.lines.places.Reads as places-reads
 
 path-field-requires : tie.Need-path-field-requires
 path-field-requires c κs = ((c .places .ensures (c .before .before .args .deck .now) (c .before .before .pre .0)) .ordered, (c .places .ensures (c .before .before .args .deck .now) (c .before .before .pre .0)) .within, omega arith)

@@ -3,8 +3,6 @@ use Rattle.deck.proofs.Laws.Lines.{span-some, span-none}
 use borrow.Author.Needs.{needs}
 use Rattle.deck.proofs.lines.places.Statement.{statement}
 use Rattle.deck.proofs.lines.places.Tie as tie
-use Rattle.deck.proofs.lines.places.Reads as reads
-use Rattle.deck.proofs.lines.places.Lts as lts
 
 returns : tie.Need-returns
 returns c = λ deck w. span-some deck (c .before .before .before .args .t1) (c .before .before .before .args .i) w (omega arith)

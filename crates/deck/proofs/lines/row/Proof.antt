@@ -1,21 +1,11 @@
 use mathlib.Core.Path.{sym}
 use Rattle.tables.specs.Lists.{firstOf}
-use Rattle.deck.specs.Deck.{byLetter}
+use Rattle.deck.specs.Deck.{byLetter, kinds}
 use Rattle.deck.specs.Answers.{fieldsOf, lineIs}
-use Rattle.deck.proofs.Laws.Lines.{kinds-none}
+use Rattle.deck.proofs.Laws.Letters.{letter-unknown}
 use borrow.Author.Needs.{needs}
 use Rattle.deck.proofs.lines.row.Statement.{statement}
 use Rattle.deck.proofs.lines.row.Tie as tie
-use Rattle.deck.proofs.lines.row.Reads as reads
-use Rattle.deck.proofs.lines.row.Lts as lts
-use Rattle.deck.proofs.lines.line_b.Reads as line-b-reads
-use Rattle.deck.proofs.lines.line_c.Reads as line-c-reads
-use Rattle.deck.proofs.lines.line_e.Reads as line-e-reads
-use Rattle.deck.proofs.lines.line_f.Reads as line-f-reads
-use Rattle.deck.proofs.lines.line_g.Reads as line-g-reads
-use Rattle.deck.proofs.lines.line_m.Reads as line-m-reads
-use Rattle.deck.proofs.lines.line_s.Reads as line-s-reads
-use Rattle.deck.proofs.lines.line_t.Reads as line-t-reads
 
 returns : tie.Need-returns
 unfolding byLetter firstOf
@@ -51,7 +41,15 @@ returns-8 c = rw (c .before .match .keys8) (c .line-c .ensures)
 
 returns-9 : tie.Need-returns-9
 unfolding lineIs
-returns-9 c = let n = c .match .rest in record { is = sym (kinds-none (c .before .before .args .kind) (fieldsOf (c .before .before .args .deck .now) (c .before .before .args .f)) (n .0 .0 .0 .0 .0 .0 .0 .1) (n .0 .0 .0 .0 .0 .0 .1) (n .0 .0 .0 .0 .0 .1) (n .0 .0 .0 .0 .1) (n .0 .0 .0 .1) (n .0 .0 .1) (n .0 .1) (n .1)); fits = tt }
+returns-9 c =
+    let s = c .before .before .args in
+    let n = c .match .rest in
+    record {
+      is =
+          sym (letter-unknown kinds (s .kind) (fieldsOf (s .deck .now) (s .f))
+          (n .0 .0 .0 .0 .0 .0 .0 .1, (n .0 .0 .0 .0 .0 .0 .1, (n .0 .0 .0 .0 .0 .1, (n .0 .0 .0 .0 .1, (n .0 .0 .0 .1, (n .0 .0 .1, (n .0 .1, (n .1, tt)))))))));
+      fits = tt;
+    }
 
 pub row-spec : {M : Type 1} → statement M
 row-spec =

@@ -8,9 +8,6 @@ use Rattle.deck.proofs.Laws.Lines.{Splitting, split-start, split-last, 
 use borrow.Author.Needs.{needs}
 use Rattle.deck.proofs.lines.split.Statement.{statement}
 use Rattle.deck.proofs.lines.split.Tie as tie
-use Rattle.deck.proofs.lines.split.Reads as reads
-use Rattle.deck.proofs.lines.split.Lts as lts
-use Rattle.deck.proofs.fields.find_byte.Reads as find-byte-reads
 
 abbrev Inv-loop : tie.InvT-loop
 Inv-loop deck start end starts₀ ends₀ count₀ at₀ starts ends count at = Splitting deck (fields (partAt deck start end)) end starts ends count at
@@ -22,13 +19,21 @@ loop-holds : tie.Need-loop-holds Inv-loop μ-loop
 loop-holds c = split-start (c .before .args .deck .now) (c .before .args .start) (c .before .args .end) (replicate 8 0) (replicate 8 0) refl refl (omega arith)
 
 returns : tie.Need-returns Inv-loop μ-loop
-returns c = split-last (c .before .before .before .before .before .args .deck .now) (fields (partAt (c .before .before .before .before .before .args .deck .now) (c .before .before .before .before .before .args .start) (c .before .before .before .before .before .args .end))) (c .before .before .before .before .before .args .end) (c .before .before .before .loop .starts) (c .before .before .before .loop .ends) (c .before .before .before .loop .count) (c .before .before .before .loop .at) (c .before .find-byte .result) (omega arith) (c .before .before .before .loop .inv) (omega arith) (c .before .find-byte .ensures) (omega arith)
+returns c =
+    let l = c .before .before .before in
+    let s = l .before .before in
+    split-last (s .args .deck .now) (fields (partAt (s .args .deck .now) (s .args .start) (s .args .end))) (s .args .end) (l .loop .starts) (l .loop .ends) (l .loop .count) (l .loop .at) (c .before .find-byte .result) (omega arith) (l .loop .inv) (omega arith) (c .before .find-byte .ensures) (omega arith)
 
 loop-again : tie.Need-loop-again Inv-loop μ-loop
-loop-again c = split-turn (c .before .before .before .before .before .args .deck .now) (fields (partAt (c .before .before .before .before .before .args .deck .now) (c .before .before .before .before .before .args .start) (c .before .before .before .before .before .args .end))) (c .before .before .before .before .before .args .end) (c .before .before .before .loop .starts) (c .before .before .before .loop .ends) (c .before .before .before .loop .count) (c .before .before .before .loop .at) (c .before .find-byte .result) (omega arith) (c .before .before .before .loop .inv) (omega arith) (c .before .find-byte .ensures) (omega arith)
+loop-again c =
+    let l = c .before .before .before in
+    let s = l .before .before in
+    split-turn (s .args .deck .now) (fields (partAt (s .args .deck .now) (s .args .start) (s .args .end))) (s .args .end) (l .loop .starts) (l .loop .ends) (l .loop .count) (l .loop .at) (c .before .find-byte .result) (omega arith) (l .loop .inv) (omega arith) (c .before .find-byte .ensures) (omega arith)
 
 returns-2 : tie.Need-returns-2 Inv-loop μ-loop
-returns-2 c = split-full (c .before .before .before .args .deck .now) (fields (partAt (c .before .before .before .args .deck .now) (c .before .before .before .args .start) (c .before .before .before .args .end))) (c .before .before .before .args .end) (c .before .loop .starts) (c .before .loop .ends) (c .before .loop .count) (c .before .loop .at) (c .before .loop .inv) (omega arith)
+returns-2 c =
+    let s = c .before .before .before in
+    split-full (s .args .deck .now) (fields (partAt (s .args .deck .now) (s .args .start) (s .args .end))) (s .args .end) (c .before .loop .starts) (c .before .loop .ends) (c .before .loop .count) (c .before .loop .at) (c .before .loop .inv) (omega arith)
 
 pub split-spec : {M : Type 1} → statement M
 split-spec =

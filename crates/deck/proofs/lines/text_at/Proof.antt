@@ -6,22 +6,22 @@ use Rattle.deck.specs.Answers.{numIs, textIs}
 use borrow.Author.Needs.{needs}
 use Rattle.deck.proofs.lines.text_at.Statement.{statement}
 use Rattle.deck.proofs.lines.text_at.Tie as tie
-use Rattle.deck.proofs.lines.text_at.Reads as reads
-use Rattle.deck.proofs.lines.text_at.Lts as lts
-use Rattle.deck.proofs.fields.text_field.Reads as text-field-reads
-use Rattle.deck.proofs.lines.letter_at.Reads as letter-at-reads
-use Rattle.deck.proofs.lines.places.Reads as places-reads
 
 returns : tie.Need-returns
 unfolding textIs numIs textFields bind
 returns c = record { is = rw (← c .before .before .letter-at .ensures, c .enum-told .given .1); fits = tt }
 
 text-field-requires : tie.Need-text-field-requires
-text-field-requires c κs = ((c .places .ensures (c .before .before .before .before .before .before .args .deck .now) (c .before .before .before .before .before .before .pre .0)) .ordered, (c .places .ensures (c .before .before .before .before .before .before .args .deck .now) (c .before .before .before .before .before .before .pre .0)) .within, omega arith)
+text-field-requires c κs =
+    let s = c .before .before .before .before .before .before in
+    ((c .places .ensures (s .args .deck .now) (s .pre .0)) .ordered, (c .places .ensures (s .args .deck .now) (s .pre .0)) .within, omega arith)
 
 returns-2 : tie.Need-returns-2
 unfolding numIs textFields bind
-returns-2 c = record { is = rw (← c .before .before .before .before .before .letter-at .ensures, c .before .before .before .kind .given .1) (c .text-field .ensures .is ∙ ap (byLetter texts (c .before .before .before .kind .given .0 .0)) ((c .before .places .ensures (c .before .before .before .before .before .before .before .args .deck .now) (c .before .before .before .before .before .before .before .pre .0)) .is)); fits = c .text-field .ensures .fits }
+returns-2 c =
+    let kind = c .before .before .before in
+    let s = kind .before .before .before .before in
+    record { is = rw (← kind .before .before .letter-at .ensures, kind .kind .given .1) (c .text-field .ensures .is ∙ ap (byLetter texts (kind .kind .given .0 .0)) ((c .before .places .ensures (s .args .deck .now) (s .pre .0)) .is)); fits = c .text-field .ensures .fits }
 
 pub text-at-spec : {M : Type 1} → statement M
 text-at-spec =

@@ -5,7 +5,7 @@ use borrow.Author.Needs.{needs}
 use borrow.Author.Tests.{not-true, not-false}
 use Rattle.load.specs.LoadCall.{tablesOf, sizesFit}
 use Rattle.load.proofs.Laws.Call.{all-fit, call-misfit, call-fits}
-use Rattle.load.proofs.Laws.Empty.{empty-schema, empty-elements, empty-model, empty-log, zeros-again}
+use Rattle.load.proofs.Laws.Empty.{empty-schema, empty-elements, empty-model, empty-log, zeros-themselves}
 use Rattle.load.proofs.load.load.Statement.{statement}
 use Rattle.load.proofs.load.load.Tie as tie
 
@@ -39,7 +39,7 @@ returns-2 c =
     sym (c .before .before .before .before .before .before .before .before .before .before .before .before .before .before .before .before .before .before .before .before .before .before .before .before .before .sizes-fit .ensures) ∙ not-false _ (c .before .before .before .before .before .before .before .before .before .before .if1 .left)
     in
     let z = c .before .before .before .before .before .before .before .before .before .before .before .before .before .clear .ensures in
-    c .before .before .before .before .before .before .load-empty .ensures _ (zeros-again (b .args .log .now) _ z) (empty-log (b .args .log .now) _ z (all-fit _ fit .logFits))
+    c .before .before .before .before .before .before .load-empty .ensures _ (zeros-themselves (b .args .log .now) _ z) (empty-log (b .args .log .now) _ z (all-fit _ fit .logFits))
     ∙ call-fits (b .args .deck .now) (b .args .schema .now) (b .args .elements .now) (b .args .model .now) (b .args .log .now) _ _ _ _ (k .ensures .0) (k .ensures .1 .0) (k .ensures .1 .1)
     (c .before .before .before .before .before .before .before .before .before .before .before .before .before .clear .ensures) fit
 

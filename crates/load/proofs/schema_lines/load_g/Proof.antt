@@ -1,11 +1,11 @@
 -- `load::schema_lines::load_g` meets its contract. Assumes nothing.
-use mathlib.Core.Path.{sym, _∙_}
+use mathlib.Core.Path.{_∙_}
 use borrow.Author.Needs.{needs}
 use borrow.Author.Tests.{not-true, not-false}
 use Rattle.tables.specs.Records.{addGroup}
 use Rattle.tables.specs.SchemaTable.{schemaOf}
 use Rattle.deck.specs.Answers.{groupIs}
-use Rattle.load.proofs.Laws.SchemaLines.{step-schema, g-late, g-limit, g-rule, g-taken, group-rule-is, fits-group}
+use Rattle.load.proofs.Laws.SchemaLines.{step-schema, g-row, row-late, row-limit, row-broken, row-taken, group-rule-is, fits-group}
 use Rattle.load.proofs.Laws.Steps.{line-refused}
 use Rattle.load.proofs.schema_lines.load_g.Statement.{statement}
 use Rattle.load.proofs.schema_lines.load_g.Tie as tie
@@ -13,12 +13,12 @@ use Rattle.load.proofs.schema_lines.load_g.Tie as tie
 returns : tie.Need-returns
 returns c elements model g =
     line-refused _ _ _ elements model _ 1 (c .refuse .ensures) g
-    (g-late _ _ (c .before .if1 .taken))
+    (g-row _ _ ∙ row-late _ _ _ _ _ _ (c .before .if1 .taken))
 
 returns-2 : tie.Need-returns-2
 returns-2 c elements model g =
     line-refused _ _ _ elements model _ 4 (c .refuse2 .ensures) g
-    (g-limit _ _ (c .before .before .if1 .left) (rw (c .before .before .before .before .group-count .ensures) at (c .before .if2 .taken)))
+    (g-row _ _ ∙ row-limit _ _ _ _ _ _ (c .before .before .if1 .left) (rw (c .before .before .before .before .group-count .ensures) at (c .before .if2 .taken)))
 
 returns-3 : tie.Need-returns-3
 returns-3 c elements model g =
@@ -28,7 +28,7 @@ returns-3 c elements model g =
     group-rule-is (schemaOf (b .args .schema .now)) _ (groupIs (b .args .c)) _ _ n (c .before .before .group-rule .ensures _) (not-true _ (c .before .if3 .taken))
     in
     line-refused _ _ _ elements model _ 2 (c .refuse3 .ensures) g
-    (g-rule _ _ (c .before .before .before .before .before .if1 .left) (rw n at (c .before .before .before .before .if2 .left)) rule)
+    (g-row _ _ ∙ row-broken _ _ _ _ _ _ (c .before .before .before .before .before .if1 .left) (rw n at (c .before .before .before .before .if2 .left)) rule)
 
 returns-4 : tie.Need-returns-4
 returns-4 c elements model g =
@@ -43,7 +43,7 @@ returns-4 c elements model g =
     g
     (c .before .before .before .before .add-group .ensures)
     (fits-group _ (g .fits) 1 _)
-    (g-taken _ _ (c .before .before .before .before .before .before .before .before .before .before .if1 .left) (rw n at (c .before .before .before .before .before .before .before .before .before .if2 .left)) rule)
+    (g-row _ _ ∙ row-taken _ _ _ _ _ _ (c .before .before .before .before .before .before .before .before .before .before .if1 .left) (rw n at (c .before .before .before .before .before .before .before .before .before .if2 .left)) rule)
 
 pub load-g-spec : {M : Type 1} → statement M
 load-g-spec =

@@ -1,11 +1,11 @@
 -- `load::schema_lines::load_s` meets its contract. Assumes nothing.
-use mathlib.Core.Path.{sym, _∙_}
+use mathlib.Core.Path.{_∙_}
 use borrow.Author.Needs.{needs}
 use borrow.Author.Tests.{not-true, not-false}
 use Rattle.tables.specs.Records.{addSubElement}
 use Rattle.tables.specs.SchemaTable.{schemaOf}
 use Rattle.deck.specs.Answers.{rowIs}
-use Rattle.load.proofs.Laws.SchemaLines.{step-schema, s-late, s-limit, s-rule, s-taken, row-rule-is, fits-row}
+use Rattle.load.proofs.Laws.SchemaLines.{step-schema, s-row, row-late, row-limit, row-broken, row-taken, row-rule-is, fits-row}
 use Rattle.schema_calls.proofs.Laws.Rules.{child-declared}
 use Rattle.load.proofs.Laws.Steps.{line-refused}
 use Rattle.load.proofs.schema_lines.load_s.Statement.{statement}
@@ -14,12 +14,12 @@ use Rattle.load.proofs.schema_lines.load_s.Tie as tie
 returns : tie.Need-returns
 returns c elements model g =
     line-refused _ _ _ elements model _ 1 (c .refuse .ensures) g
-    (s-late _ _ (c .before .if1 .taken))
+    (s-row _ _ ∙ row-late _ _ _ _ _ _ (c .before .if1 .taken))
 
 returns-2 : tie.Need-returns-2
 returns-2 c elements model g =
     line-refused _ _ _ elements model _ 4 (c .refuse2 .ensures) g
-    (s-limit _ _ (c .before .before .if1 .left) (rw (c .before .before .before .before .row-count .ensures) at (c .before .if2 .taken)))
+    (s-row _ _ ∙ row-limit _ _ _ _ _ _ (c .before .before .if1 .left) (rw (c .before .before .before .before .row-count .ensures) at (c .before .if2 .taken)))
 
 returns-3 : tie.Need-returns-3
 returns-3 c elements model g =
@@ -29,7 +29,7 @@ returns-3 c elements model g =
     row-rule-is (schemaOf (b .args .schema .now)) _ (rowIs (b .args .c)) _ _ n (c .before .before .sub-element-rule .ensures) (not-true _ (c .before .if3 .taken))
     in
     line-refused _ _ _ elements model _ 2 (c .refuse3 .ensures) g
-    (s-rule _ _ (c .before .before .before .before .before .if1 .left) (rw n at (c .before .before .before .before .if2 .left)) rule)
+    (s-row _ _ ∙ row-broken _ _ _ _ _ _ (c .before .before .before .before .before .if1 .left) (rw n at (c .before .before .before .before .if2 .left)) rule)
 
 returns-4 : tie.Need-returns-4
 returns-4 c elements model g =
@@ -44,7 +44,7 @@ returns-4 c elements model g =
     g
     (c .before .before .before .before .add-row .ensures)
     (fits-row _ (g .fits) 2 _ (child-declared _ _ rule))
-    (s-taken _ _ (c .before .before .before .before .before .before .before .before .before .before .if1 .left) (rw n at (c .before .before .before .before .before .before .before .before .before .if2 .left)) rule)
+    (s-row _ _ ∙ row-taken _ _ _ _ _ _ (c .before .before .before .before .before .before .before .before .before .before .if1 .left) (rw n at (c .before .before .before .before .before .before .before .before .before .if2 .left)) rule)
 
 pub load-s-spec : {M : Type 1} → statement M
 load-s-spec =

@@ -1,6 +1,6 @@
 -- `load::tree_lines::load_child` meets its contract. Assumes nothing.
 use mathlib.Core.Option.{some}
-use mathlib.Core.Path.{_≡_, _∙_, sym}
+use mathlib.Core.Path.{_≡_, refl, sym, _∙_}
 use Prim.Native.Nat.{_<_}
 use native.Mathlib.Omega.{arith}
 use borrow.Author.Tests.{not-true, not-false}
@@ -10,13 +10,14 @@ use Rattle.tables.specs.ElementsTable.{elementsOf}
 use Rattle.tables.specs.SchemaTable.{schemaOf, noSubElement}
 use Rattle.tables.specs.ModelTable.{parentIs}
 use Rattle.tables.specs.declared.model.Parent.{Parent}
-use Rattle.deck.specs.Schema.{findSubElement, allVersions}
+use Rattle.deck.specs.Schema.{rowOfName}
 use Rattle.deck.specs.Load.{owner}
+use Rattle.deck.proofs.Laws.Schema.{row-equal}
 use Rattle.deck.proofs.Laws.Load.{room-left}
 use Rattle.load.specs.Lines.{loadingOf}
 use Rattle.load.proofs.Laws.Steps.{line-refused}
 use Rattle.load.proofs.Laws.Above.{owner-told, owner-element, owner-deep}
-use Rattle.load.proofs.Laws.Elements.{row-of, child-typed, child-alone, child-unknown, child-barred, child-line}
+use Rattle.load.proofs.Laws.Elements.{child-typed, child-alone, child-unknown, child-barred, child-line}
 use Rattle.load.proofs.tree_lines.load_child.Statement.{statement}
 use Rattle.load.proofs.tree_lines.load_child.Tie as tie
 use Rattle.schema_calls.proofs.Laws.Scans.{found-at, found-within, found-missing}
@@ -34,13 +35,13 @@ owns c = owned (c .before .before .before) _ (c .before .o .given .1)
 
 -- the row that the program found
 found : (c : tie.After-known-told2) → let a = c .before .before .before .before .before .before .before .before .before .before .before .before .before .args in
-    findSubElement (schemaOf (a .schema .now)) (getD (elementsOf (a .elements .now) .types) (c .before .before .before .before .before .before .before .o .given .0 .0 .0) 0) (a .c .name .0) allVersions
+    rowOfName (schemaOf (a .schema .now)) (getD (elementsOf (a .elements .now) .types) (c .before .before .before .before .before .before .before .o .given .0 .0 .0) 0) (a .c .name .0)
     ≡ some (getD (schemaOf (a .schema .now) .subElements) (c .before .i .given .0 .0) noSubElement)
 found c =
-    row-of _ _ _ _ _ _ (c .before .before .before .before .element-type .ensures) (found-at (c .before .before .before .find-sub-element .ensures) (c .before .i .given .1))
+    row-equal _ (sym (c .before .before .before .before .element-type .ensures)) refl ∙ found-at (c .before .before .before .row-of-name .ensures) (c .before .i .given .1)
 
 within : (c : tie.After-known-told2) → c .before .i .given .0 .0 < length (schemaOf (c .before .before .before .before .before .before .before .before .before .before .before .before .before .args .schema .now) .subElements)
-within c = found-within (c .before .before .before .find-sub-element .ensures) (c .before .i .given .1)
+within c = found-within (c .before .before .before .row-of-name .ensures) (c .before .i .given .1)
 
 returns : tie.Need-returns
 returns c =
@@ -56,7 +57,7 @@ returns-2 c =
     let o = f .before .before .before in
     line-refused _ _ _ _ _ _ 3 (c .refuse2 .ensures) (o .before .before .before .before .before .before .before .pre .0)
     (child-unknown _ _ _ _ _ (owns o)
-    (row-of _ _ _ _ _ _ (f .before .element-type .ensures) (found-missing (f .find-sub-element .ensures) (c .before .enum-told2 .given .1))))
+    (row-equal _ (sym (f .before .element-type .ensures)) refl ∙ found-missing (f .row-of-name .ensures) (c .before .enum-told2 .given .1)))
 
 returns-3 : tie.Need-returns-3
 returns-3 c =

@@ -46,29 +46,29 @@ append-digits-has t = (
 append-digits-digit-byte-requires : (t : ℕ) → append-digits-lts.Need-digit-byte-requires (append-digits-has t) (append-digits-at t) append-digits.Post
 append-digits-digit-byte-requires t c κs =
     let s = c .before in
-    let h = s .pre .1 .1 in
-    omega (arith, mod-lt (s .args .n) {m = s .args .radix} (omega arith))
+    omega (arith, mod-lt (s .args .n) {m = s .args .radix} (omega (arith, s .pre .1)))
 
 append-digits-returns : (t : ℕ) → append-digits-lts.Need-returns (append-digits-has t) (append-digits-at t) append-digits.Post
 append-digits-returns t c =
     let s = c .before .before .before .before .before .before .before in
-    reads (ap (λ (d : ℕ). d ∷ []) (c .before .before .before .before .before .digit-byte .ensures) ∙ one-digit (s .args .n) (s .args .radix) (c .before .before .before .before .if1 .taken)) (c .before .before .append-byte .ensures)
+    let d = c .before .before .before .before .before .digit-byte .ensures in
+    reads (ap (λ (b : ℕ). b ∷ []) d ∙ one-digit (s .args .n) (s .args .radix) (c .before .before .before .before .if1 .taken)) (c .before .before .append-byte .ensures)
 
 append-digits-append-digits-requires : (t : ℕ) → append-digits-lts.Need-append-digits-requires (append-digits-has t) (append-digits-at t) append-digits.Post
 append-digits-append-digits-requires t c κs =
     let s = c .before .before .before .before in
-    let l = div-less (s .args .n) (s .args .radix) (s .pre .1 .1 .0) (c .before .if1 .left) in
-    (omega (arith, s .pre .0), (s .pre .1 .0, (s .pre .1 .1 .0, s .pre .1 .1 .1)))
-
-append-digits-append-byte-requires-2 : (t : ℕ) → append-digits-lts.Need-append-byte-requires-2 (append-digits-has t) (append-digits-at t) append-digits.Post
-append-digits-append-byte-requires-2 t c κs = c .before .before .before .append-digits .ensures .within
+    let l = div-less (s .args .n) (s .args .radix) (s .pre .1 .0) (c .before .if1 .left) in
+    (omega (arith, s .pre .0), s .pre .1)
 
 append-digits-returns-2 : (t : ℕ) → append-digits-lts.Need-returns-2 (append-digits-has t) (append-digits-at t) append-digits.Post
 append-digits-returns-2 t c =
     let s = c .before .before .before .before .before .before .before .before .before .before .before in
+    let n = s .args .n in
+    let radix = s .args .radix in
+    let d = c .before .before .before .before .before .before .before .before .before .digit-byte .ensures in
+    let high = digitsBefore (suc (n / radix)) radix (n / radix) [] in
     reads
-    (ap (λ (d : ℕ). digitsBefore (suc (s .args .n / s .args .radix)) (s .args .radix) (s .args .n / s .args .radix) [] ++ (d ∷ [])) (c .before .before .before .before .before .before .before .before .before .digit-byte .ensures)
-    ∙ more-digits (s .args .n) (s .args .radix) (s .pre .1 .1 .0) (c .before .before .before .before .before .before .before .before .if1 .left))
+    (ap (λ (b : ℕ). high ++ (b ∷ [])) d ∙ more-digits n radix (s .pre .1 .0) (c .before .before .before .before .before .before .before .before .if1 .left))
     (then (c .before .before .before .before .before .before .append-digits .ensures) (c .before .before .append-byte2 .ensures))
 
 pub +append-digits-spec : {M : Type 1} → statement M
@@ -83,6 +83,6 @@ pub +append-digits-spec : {M : Type 1} → statement M
     (append-digits-returns t)
     (λ c. search needs)
     (append-digits-append-digits-requires t)
-    (append-digits-append-byte-requires-2 t)
+    (λ c κs. search needs)
     (λ c. search needs)
     (append-digits-returns-2 t)

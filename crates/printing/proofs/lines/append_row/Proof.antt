@@ -7,9 +7,8 @@ use Rattle.printing.proofs.lines.append_row.Tie as tie
 
 returns : tie.Need-returns
 returns c =
-    let s = c .before .before .before .before .before .before .before .before .before .before .before .before .before .before .before .before .before .before in
     reads
-    (row-parts (s .args .depth) (s .args .name) (s .args .set))
+    (row-parts _ _ _)
     (then
     (c .before .before .before .before .before .before .before .before .before .before .before .before .before .before .append-bytes .ensures)
     (then (c .before .before .before .before .before .before .before .before .before .before .append-number .ensures) (then (c .before .before .before .before .before .before .append-number2 .ensures) (c .before .before .append-number3 .ensures))))

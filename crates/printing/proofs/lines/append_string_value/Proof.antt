@@ -1,5 +1,4 @@
 -- `lines::append_string_value` meets its contract. Assumes nothing.
-use Prim.Native.Nat.{_/_, _%_}
 use Rattle.printing.proofs.Laws.Buffers.{then, reads}
 use Rattle.printing.proofs.Laws.Lines.{string-part}
 use borrow.Author.Needs.{needs}
@@ -8,11 +7,9 @@ use Rattle.printing.proofs.lines.append_string_value.Tie as tie
 
 returns : tie.Need-returns
 returns c =
-    let s = c .before .before .before .before .before .before .before .before .before .before .before .before .before .before .before .before in
-    let v = s .args .value in
     then
     (c .before .before .before .before .before .before .before .before .before .before .before .append-bytes .ensures)
-    (then (reads (string-part (s .args .deck .now) (v / 65536) (v % 65536)) (c .before .before .before .before .before .before .append-bytes2 .ensures)) (c .before .before .append-byte .ensures))
+    (then (reads (string-part _ _ _) (c .before .before .before .before .before .before .append-bytes2 .ensures)) (c .before .before .append-byte .ensures))
 
 pub append-string-value-spec : {M : Type 1} → statement M
 append-string-value-spec =

@@ -1,5 +1,4 @@
 -- `lines::append_text` meets its contract. Assumes nothing.
-use Rattle.tables.specs.Texts.{textFrom}
 use Rattle.printing.proofs.Laws.Buffers.{then, reads}
 use Rattle.printing.proofs.Laws.Lines.{text-parts}
 use borrow.Author.Needs.{needs}
@@ -8,10 +7,9 @@ use Rattle.printing.proofs.lines.append_text.Tie as tie
 
 returns : tie.Need-returns
 returns c =
-    let s = c .before .before .before .before .before .before .before .before .before .before .before .before .before .before .before in
     λ x d.
     reads
-    (text-parts x (s .args .depth) (textFrom (s .args .kind) (s .args .value)))
+    (text-parts x _ _)
     (then (c .before .before .before .before .before .before .before .before .before .before .append-bytes .ensures) (then (c .before .before .before .before .before .before .append-number .ensures) (c .before .before .append-value .ensures x d)))
 
 pub append-text-spec : {M : Type 1} → statement M

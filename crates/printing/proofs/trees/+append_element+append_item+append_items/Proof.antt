@@ -10,7 +10,8 @@ use Rattle.tables.specs.Records.{Item, depthOf, listOf}
 use Rattle.tables.specs.ModelTable.{modelOf}
 use Rattle.state_test.specs.StateTest.{fixedIn}
 use Rattle.merge_rules.specs.Program.{itemLines, elementLines}
-use Rattle.printing.proofs.Laws.Buffers.{then, reads, nothing, Leaves, begin}
+use Rattle.printing.specs.Buffers.{bufferIs}
+use Rattle.printing.proofs.Laws.Buffers.{then, reads, Leaves, begin, as-long}
 use Rattle.printing.proofs.Laws.Trees.{elements-none, elements-more, child-lines, text-lines, items-turn, items-end, listed-in, child-in, text-in}
 use borrow.Fn.Kinds.{In}
 use borrow.Fn.PlainCycle.{Measures, is, falls, and}
@@ -105,53 +106,35 @@ append-item-has t = (
 )
 
 append-element-returns : (t : ℕ) → append-element-lts.Need-returns (append-element-has t) (append-element-at t) append-element.Post
-append-element-returns t c =
-    let s = c .before .before .before .before .before in
-    λ schema.
-    reads (elements-none (s .args .left) (fixedIn (s .args .deck .now) schema (s .args .elements .now)) (modelOf (s .args .model .now)) (s .args .e) (c .if1 .taken)) (nothing (s .args .out .now) (s .args .at) (s .pre .1 .1 .1))
-
-append-element-append-element-line-requires :
-    (t : ℕ) → append-element-lts.Need-append-element-line-requires (append-element-has t) (append-element-at t) append-element.Post
-append-element-append-element-line-requires t c κs = c .before .before .before .before .before .before .pre .1
+append-element-returns t c = λ schema. elements-none _ _ _ _ _ (search needs)
 
 append-element-append-items-requires : (t : ℕ) → append-element-lts.Need-append-items-requires (append-element-has t) (append-element-at t) append-element.Post
 append-element-append-items-requires t c κs =
     let s = c .before .before .before .before .before .before .before .before .before .before in
-    (omega (arith, s .pre .0, c .before .before .before .before .before .if1 .left), (s .pre .1 .0, (s .pre .1 .1 .0, c .before .before .before .append-element-line .ensures [] .within)))
+    (omega (arith, s .pre .0, c .before .before .before .before .before .if1 .left), s .pre .1)
 
 append-element-returns-2 : (t : ℕ) → append-element-lts.Need-returns-2 (append-element-has t) (append-element-at t) append-element.Post
 append-element-returns-2 t c =
-    let s = c .before .before .before .before .before .before .before .before .before .before .before .before .before in
     λ schema.
     reads
-    (elements-more (s .args .left) (fixedIn (s .args .deck .now) schema (s .args .elements .now)) (modelOf (s .args .model .now)) (s .args .e) (c .before .before .before .before .before .before .before .before .if1 .left))
+    (elements-more _ _ _ _ (c .before .before .before .before .before .before .before .before .if1 .left))
     (then (c .before .before .before .before .before .before .append-element-line .ensures schema) (c .before .before .append-items .ensures schema))
 
 append-item-append-element-requires : (t : ℕ) → append-item-lts.Need-append-element-requires (append-item-has t) (append-item-at t) append-item.Post
 append-item-append-element-requires t c κs =
     let s = c .before .before .before .before .before .before .before .before in
-    (omega (arith, s .pre .0), (s .pre .1 .0, (child-in (s .pre .1 .0) (s .args .a) _ (c .before .before .a .given .1) (s .pre .1 .1 .0), s .pre .1 .1 .1)))
+    (omega (arith, s .pre .0), (s .pre .1 .0, child-in (s .pre .1 .0) (s .args .a) _ (c .before .before .a .given .1) (s .pre .1 .1)))
 
 append-item-append-text-line-requires : (t : ℕ) → append-item-lts.Need-append-text-line-requires (append-item-has t) (append-item-at t) append-item.Post
 append-item-append-text-line-requires t c κs =
     let s = c .before .before .before .before .before .before .before .before in
-    (s .pre .1 .0, (text-in (s .pre .1 .0) (s .args .a) _ (c .before .before .a2 .given .1) (s .pre .1 .1 .0), s .pre .1 .1 .1))
+    (s .pre .1 .0, text-in (s .pre .1 .0) (s .args .a) _ (c .before .before .a2 .given .1) (s .pre .1 .1))
 
 append-item-returns : (t : ℕ) → append-item-lts.Need-returns (append-item-has t) (append-item-at t) append-item.Post
-append-item-returns t c =
-    let s = c .before .before .before .before .before .before .before .before .before .before .before in
-    λ schema.
-    reads
-    (child-lines (elementLines (s .args .left) (fixedIn (s .args .deck .now) schema (s .args .elements .now)) (modelOf (s .args .model .now))) (fixedIn (s .args .deck .now) schema (s .args .elements .now)) (s .args .depth) (s .args .a) _ (c .before .before .before .before .before .a .given .1))
-    (c .before .before .append-element .ensures schema)
+append-item-returns t c = λ schema. reads (child-lines _ _ _ _ _ (c .before .before .before .before .before .a .given .1)) (c .before .before .append-element .ensures schema)
 
 append-item-returns-2 : (t : ℕ) → append-item-lts.Need-returns-2 (append-item-has t) (append-item-at t) append-item.Post
-append-item-returns-2 t c =
-    let s = c .before .before .before .before .before .before .before .before .before .before .before in
-    λ schema.
-    reads
-    (text-lines (elementLines (s .args .left) (fixedIn (s .args .deck .now) schema (s .args .elements .now)) (modelOf (s .args .model .now))) (fixedIn (s .args .deck .now) schema (s .args .elements .now)) (s .args .depth) (s .args .a) _ (c .before .before .before .before .before .a2 .given .1))
-    (c .before .before .append-text-line .ensures schema)
+append-item-returns-2 t c = λ schema. reads (text-lines _ _ _ _ _ (c .before .before .before .before .before .a2 .given .1)) (c .before .before .append-text-line .ensures schema)
 
 abbrev items : List ℕ → List ℕ → List ℕ → List ℕ → ℕ → ℕ → List Item → List ℕ
 items deck elements model schema left e l =
@@ -162,19 +145,23 @@ items deck elements model schema left e l =
     l
 
 abbrev append-items-Inv-loop : append-items-lts.InvT-loop
-append-items-Inv-loop deck elements model out₀ at e left depth n k₀ i₀ out k i =
+append-items-Inv-loop deck elements model out₀ e left depth n k₀ i₀ out k i =
     (i ≤ n)
     × ((schema : List ℕ)
-    → Leaves out₀ out at k (items deck elements model schema left e (listOf (modelOf model) e)) (items deck elements model schema left e (drop i (listOf (modelOf model) e))))
+    → Leaves
+    (bufferIs k₀ out₀)
+    (items deck elements model schema left e (listOf (modelOf model) e))
+    (bufferIs k out)
+    (items deck elements model schema left e (drop i (listOf (modelOf model) e))))
 
 abbrev append-items-μ-loop : append-items-lts.MeasureT-loop
-append-items-μ-loop deck elements model out₀ at e left depth n k₀ i₀ out k i = n - i
+append-items-μ-loop deck elements model out₀ e left depth n k₀ i₀ out k i = n - i
 
 append-items-add-depth : (t : ℕ) → append-items-lts.Need-add-depth (append-items-has t) (append-items-at t) append-items.Post append-items-Inv-loop append-items-μ-loop
-append-items-add-depth t c = let s = c .before .before .before .before .before in omega (arith, c .element-depth .ensures, s .pre .1 .0 .low (s .args .e) (s .pre .1 .1 .0))
+append-items-add-depth t c = let s = c .before .before .before .before .before in omega (arith, c .element-depth .ensures, s .pre .1 .0 .low (s .args .e) (s .pre .1 .1))
 
 append-items-loop-holds : (t : ℕ) → append-items-lts.Need-loop-holds (append-items-has t) (append-items-at t) append-items.Post append-items-Inv-loop append-items-μ-loop
-append-items-loop-holds t c = let s = c .before .before .before .before .before .before in (search needs, λ schema. begin (s .args .out .now) (s .args .at) _ (s .pre .1 .1 .1))
+append-items-loop-holds t c = (search needs, λ schema. begin _ _)
 
 append-items-item-at-requires : (t : ℕ) → append-items-lts.Need-item-at-requires (append-items-has t) (append-items-at t) append-items.Post append-items-Inv-loop append-items-μ-loop
 append-items-item-at-requires t c κs = (c .before .before .before .before .before .before .before .before .pre .1 .0 .modelGood, omega (arith, c .before .before .list-length .ensures))
@@ -182,46 +169,27 @@ append-items-item-at-requires t c κs = (c .before .before .before .before .befo
 append-items-append-item-requires : (t : ℕ) → append-items-lts.Need-append-item-requires (append-items-has t) (append-items-at t) append-items.Post append-items-Inv-loop append-items-μ-loop
 append-items-append-item-requires t c κs =
     let s = c .before .before .before .before .before .before .before .before .before .before in
-    let l : c .before .before .before .loop .i < length (listOf (modelOf (s .args .model .now)) (s .args .e)) = omega (arith, c .before .before .before .before .list-length .ensures) in
-    (omega (arith, s .pre .0), (s .pre .1 .0, (listed-in (s .pre .1 .0) (s .args .e) (c .before .before .before .loop .i) _ l (c .before .item-at .ensures), c .before .before .before .loop .inv .1 [] .within)))
+    let i = c .before .before .before .loop .i in
+    let l : i < length (listOf (modelOf (s .args .model .now)) (s .args .e)) = omega (arith, c .before .before .before .before .list-length .ensures) in
+    (omega (arith, s .pre .0), (s .pre .1 .0, listed-in (s .pre .1 .0) (s .args .e) i _ l (c .before .item-at .ensures)))
 
 append-items-loop-again : (t : ℕ) → append-items-lts.Need-loop-again (append-items-has t) (append-items-at t) append-items.Post append-items-Inv-loop append-items-μ-loop
 append-items-loop-again t c =
     let s = c .before .before .before .before .before .before .before .before .before .before .before .before .before in
-    let l : c .before .before .before .before .before .before .loop .i < length (listOf (modelOf (s .args .model .now)) (s .args .e)) =
-    omega (arith, c .before .before .before .before .before .before .before .list-length .ensures, c .before .before .before .before .before .loop-test .taken)
-    in (
-      omega (arith, c .before .before .before .before .before .loop-test .taken),
-      λ schema.
-          items-turn
-          (elementLines (s .args .left) (fixedIn (s .args .deck .now) schema (s .args .elements .now)) (modelOf (s .args .model .now)))
-          (fixedIn (s .args .deck .now) schema (s .args .elements .now))
-          (suc (depthOf (fixedIn (s .args .deck .now) schema (s .args .elements .now)) (s .args .e)))
-          (listOf (modelOf (s .args .model .now)) (s .args .e))
-          (c .before .before .before .before .before .before .loop .i)
-          l
-          (c .before .before .before .before .item-at .ensures)
-          (add-one _ ∙ ap suc (c .before .before .before .before .before .before .before .before .element-depth .ensures))
-          (c .before .before .before .before .before .before .loop .inv .1 schema)
-          (c .before .before .append-item .ensures schema),
-    )
+    let i = c .before .before .before .before .before .before .loop .i in
+    let h = c .before .before .before .before .before .loop-test .taken in
+    let l : i < length (listOf (modelOf (s .args .model .now)) (s .args .e)) = omega (arith, c .before .before .before .before .before .before .before .list-length .ensures, h) in
+    let d = c .before .before .before .before .before .before .before .before .element-depth .ensures in
+    (omega (arith, h), λ schema. items-turn _ _ _ _ i l (c .before .before .before .before .item-at .ensures) (add-one _ ∙ ap suc d) (c .before .before .before .before .before .before .loop .inv .1 schema) (c .before .before .append-item .ensures schema))
 
 append-items-same-length : (t : ℕ) → append-items-lts.Need-same-length (append-items-has t) (append-items-at t) append-items.Post append-items-Inv-loop append-items-μ-loop
-append-items-same-length t c = c .before .loop .inv .1 [] .same
+append-items-same-length t c = as-long (c .before .loop .inv .1 [])
 
 append-items-returns : (t : ℕ) → append-items-lts.Need-returns (append-items-has t) (append-items-at t) append-items.Post append-items-Inv-loop append-items-μ-loop
 append-items-returns t c =
     let s = c .before .before .before .before .before .before .before .before in
     let l : length (listOf (modelOf (s .args .model .now)) (s .args .e)) ≤ c .before .loop .i = omega (arith, c .before .before .list-length .ensures) in
-    λ schema.
-    items-end
-    (elementLines (s .args .left) (fixedIn (s .args .deck .now) schema (s .args .elements .now)) (modelOf (s .args .model .now)))
-    (fixedIn (s .args .deck .now) schema (s .args .elements .now))
-    (suc (depthOf (fixedIn (s .args .deck .now) schema (s .args .elements .now)) (s .args .e)))
-    (listOf (modelOf (s .args .model .now)) (s .args .e))
-    (c .before .loop .i)
-    l
-    (c .before .loop .inv .1 schema)
+    λ schema. items-end _ _ _ _ _ l (c .before .loop .inv .1 schema)
 
 pub +append-element+append-item+append-items-spec : {M : Type 1} → statement M
 +append-element+append-item+append-items-spec =
@@ -230,7 +198,7 @@ pub +append-element+append-item+append-items-spec : {M : Type 1} → statement M
     (append-element-at t)
     append-element.Post
     (append-element-returns t)
-    (append-element-append-element-line-requires t)
+    (λ c κs. search needs)
     (λ c. search needs)
     (append-element-append-items-requires t)
     (λ c. search needs)

@@ -1,6 +1,4 @@
 -- `trees::append_model` meets its contract. Assumes nothing.
-use Rattle.tables.specs.ModelTable.{modelOf}
-use Rattle.state_test.specs.StateTest.{fixedIn}
 use Rattle.printing.proofs.Laws.Buffers.{reads}
 use Rattle.printing.proofs.Laws.Trees.{model-parts}
 use borrow.Author.Needs.{needs}
@@ -8,9 +6,7 @@ use Rattle.printing.proofs.trees.append_model.Statement.{statement}
 use Rattle.printing.proofs.trees.append_model.Tie as tie
 
 returns : tie.Need-returns
-returns c =
-    let s = c .before .before .before .before .before .before .before .before in
-    λ schema. reads (model-parts (fixedIn (s .args .deck .now) schema (s .args .elements .now)) (modelOf (s .args .model .now))) (c .before .before .append-element .ensures schema)
+returns c = λ schema. reads (model-parts _ _) (c .before .before .append-element .ensures schema)
 
 pub append-model-spec : {M : Type 1} → statement M
 append-model-spec = tie.close (tie.spec (λ c κs. search needs) (λ c. search needs) returns)

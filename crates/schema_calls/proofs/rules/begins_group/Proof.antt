@@ -1,7 +1,7 @@
 -- `rules::begins_group` meets its contract. Assumes nothing.
 use lib.ListN.{getD}
 use Rattle.tables.specs.SchemaTable.{schemaOf, noGroup}
-use Rattle.schema_calls.specs.Calls.{rowOf}
+use Rattle.deck.specs.Answers.{rowIs}
 use Rattle.schema_calls.proofs.Laws.Rows.{begins-other-type, begins-path}
 use borrow.Author.Needs.{needs}
 use Rattle.schema_calls.proofs.rules.begins_group.Statement.{statement}
@@ -10,12 +10,12 @@ use Rattle.schema_calls.proofs.rules.begins_group.Tie as tie
 returns : tie.Need-returns
 returns c =
     let s = c .before .before .before .before .before .before .args in
-    begins-other-type (rowOf (s .c)) (getD (schemaOf (s .schema .now) .groups) (s .i) noGroup) (c .before .before .before .before .group-type .ensures) (c .if1 .taken)
+    begins-other-type (rowIs (s .c)) (getD (schemaOf (s .schema .now) .groups) (s .i) noGroup) (c .before .before .before .before .group-type .ensures) (c .if1 .taken)
 
 returns-2 : tie.Need-returns-2
 returns-2 c =
     let s = c .before .before .before .before .before .before .before .before .before .args in
-    begins-path (rowOf (s .c)) (getD (schemaOf (s .schema .now) .groups) (s .i) noGroup) (c .before .before .before .before .before .before .before .group-type .ensures) (c .before .before .before .if1 .left) (c .before .before .group-path .ensures) (c .begins .ensures)
+    begins-path (rowIs (s .c)) (getD (schemaOf (s .schema .now) .groups) (s .i) noGroup) (c .before .before .before .before .before .before .before .group-type .ensures) (c .before .before .before .if1 .left) (c .before .before .group-path .ensures) (c .begins .ensures)
 
 pub begins-group-spec : {M : Type 1} → statement M
 begins-group-spec =

@@ -1,8 +1,8 @@
 -- `rules::sub_element_rule` meets its contract. Assumes nothing.
 use borrow.Author.Tests.{not-true, not-false}
 use Rattle.tables.specs.SchemaTable.{schemaOf}
-use Rattle.schema_calls.specs.Calls.{rowOf}
-use Rattle.schema_calls.proofs.Laws.Rules.{sub-stands-not, sub-child-not, sub-meets, sub-begins}
+use Rattle.deck.specs.Answers.{rowIs}
+use Rattle.schema_calls.proofs.Laws.Rules.{sub-path-invalid, sub-child-not, sub-meets, sub-begins}
 use borrow.Author.Needs.{needs}
 use Rattle.schema_calls.proofs.rules.sub_element_rule.Statement.{statement}
 use Rattle.schema_calls.proofs.rules.sub_element_rule.Tie as tie
@@ -11,18 +11,18 @@ returns : tie.Need-returns
 returns c =
     let s = c .before .before .before .before .args in
     let groups = c .before .before .group-count in
-    let stands = c .before .row-may-stand in
-    sub-stands-not (schemaOf (s .schema .now)) (s .above) (rowOf (s .c)) (groups .result) (groups .ensures) (stands .ensures)
-    (not-true (stands .result) (c .if1 .taken))
+    let valid = c .before .path-valid in
+    sub-path-invalid (schemaOf (s .schema .now)) (s .above) (rowIs (s .c)) (groups .result) (groups .ensures) (valid .ensures)
+    (not-true (valid .result) (c .if1 .taken))
 
 returns-2 : tie.Need-returns-2
 returns-2 c =
     let s = c .before .before .before .before .before .before .args in
     let groups = c .before .before .before .before .group-count in
-    let stands = c .before .before .before .row-may-stand in
+    let valid = c .before .before .before .path-valid in
     let child = c .before .type-declared in
-    sub-child-not (schemaOf (s .schema .now)) (s .above) (rowOf (s .c)) (groups .result) (groups .ensures) (stands .ensures)
-    (not-false (stands .result) (c .before .before .if1 .left))
+    sub-child-not (schemaOf (s .schema .now)) (s .above) (rowIs (s .c)) (groups .result) (groups .ensures) (valid .ensures)
+    (not-false (valid .result) (c .before .before .if1 .left))
     (child .ensures)
     (not-true (child .result) (c .if2 .taken))
 
@@ -30,10 +30,10 @@ returns-3 : tie.Need-returns-3
 returns-3 c =
     let s = c .before .before .before .before .before .before .before .before .args in
     let groups = c .before .before .before .before .before .before .group-count in
-    let stands = c .before .before .before .before .before .row-may-stand in
+    let valid = c .before .before .before .before .before .path-valid in
     let child = c .before .before .before .type-declared in
-    sub-meets (schemaOf (s .schema .now)) (s .above) (rowOf (s .c)) (groups .result) (groups .ensures) (stands .ensures)
-    (not-false (stands .result) (c .before .before .before .before .if1 .left))
+    sub-meets (schemaOf (s .schema .now)) (s .above) (rowIs (s .c)) (groups .result) (groups .ensures) (valid .ensures)
+    (not-false (valid .result) (c .before .before .before .before .if1 .left))
     (child .ensures)
     (not-false (child .result) (c .before .before .if2 .left))
     (c .before .rows-meet-any .ensures)
@@ -43,10 +43,10 @@ returns-4 : tie.Need-returns-4
 returns-4 c =
     let s = c .before .before .before .before .before .before .before .before .before .args in
     let groups = c .before .before .before .before .before .before .before .group-count in
-    let stands = c .before .before .before .before .before .before .row-may-stand in
+    let valid = c .before .before .before .before .before .before .path-valid in
     let child = c .before .before .before .before .type-declared in
-    sub-begins (schemaOf (s .schema .now)) (s .above) (rowOf (s .c)) (groups .result) (groups .ensures) (stands .ensures)
-    (not-false (stands .result) (c .before .before .before .before .before .if1 .left))
+    sub-begins (schemaOf (s .schema .now)) (s .above) (rowIs (s .c)) (groups .result) (groups .ensures) (valid .ensures)
+    (not-false (valid .result) (c .before .before .before .before .before .if1 .left))
     (child .ensures)
     (not-false (child .result) (c .before .before .before .if2 .left))
     (c .before .before .rows-meet-any .ensures)

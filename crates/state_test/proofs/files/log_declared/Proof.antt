@@ -4,7 +4,9 @@ use Prim.Native.Nat.{_-_, _≤_}
 use lib.ListN.{length, drop}
 use Rattle.tables.specs.Lists.{allOf}
 use Rattle.tables.specs.LogTable.{logOf}
-use Rattle.tables.specs.SchemaTable.{schemaOf}
+use Rattle.tables.specs.Records.{Schema}
+use Rattle.tables.specs.SetCells.{setIs}
+use Rattle.deck.specs.Schema.{declaredFiles}
 use Rattle.state_test.specs.StateTest.{entryDeclared}
 use Rattle.state_test.proofs.Laws.Files.{entry-stop, entry-more, entries-start, entries-end}
 use borrow.Author.Needs.{needs}
@@ -12,33 +14,36 @@ use Rattle.state_test.proofs.files.log_declared.Statement.{statement}
 use Rattle.state_test.proofs.files.log_declared.Tie as tie
 
 abbrev Inv-loop : tie.InvT-loop
-Inv-loop schema log d i₀ i = (i ≤ length (logOf log)) × (allOf (entryDeclared (schemaOf schema)) (drop (length (logOf log) - i) (logOf log)) ≡ allOf (entryDeclared (schemaOf schema)) (logOf log))
+Inv-loop log d i₀ i =
+    (i ≤ length (logOf log)) × ((sc : Schema) → setIs d ≡ declaredFiles sc → allOf (entryDeclared sc) (drop (length (logOf log) - i) (logOf log)) ≡ allOf (entryDeclared sc) (logOf log))
 
 abbrev μ-loop : tie.MeasureT-loop
-μ-loop schema log d i₀ i = i
+μ-loop log d i₀ i = i
 
 loop-holds : tie.Need-loop-holds Inv-loop μ-loop
 loop-holds c =
-    let a = c .before .before .before .args in
-    (search needs, entries-start (entryDeclared (schemaOf (a .schema .now))) (logOf (a .log .now)) _ (c .log-length .ensures))
+    (search needs, λ sc e. entries-start (entryDeclared sc) (logOf (c .before .before .args .log .now)) _ (c .log-length .ensures))
 
 returns : tie.Need-returns Inv-loop μ-loop
 returns c =
-    let a = c .before .before .before .before .before .before .before .before .args in
     let l = c .before .before .before .before .loop in
-    entry-stop (entryDeclared (schemaOf (a .schema .now))) (logOf (a .log .now)) (l .i) (search needs) (l .inv .0) (c .before .entry-declared .ensures ∙ ap (entryDeclared (schemaOf (a .schema .now))) (c .before .before .entry-at .ensures)) (c .if1 .taken) (l .inv .1)
+    λ sc e.
+    entry-stop (entryDeclared sc) (logOf (c .before .before .before .before .before .before .before .args .log .now)) (l .i) (search needs) (l .inv .0)
+    (c .before .entry-declared .ensures sc e ∙ ap (entryDeclared sc) (c .before .before .entry-at .ensures)) (c .if1 .taken) (l .inv .1 sc e)
 
 loop-again : tie.Need-loop-again Inv-loop μ-loop
 loop-again c =
-    let a = c .before .before .before .before .before .before .before .before .args in
-    let l = c .before .before .before .before .loop in
-    (search needs, entry-more (entryDeclared (schemaOf (a .schema .now))) (logOf (a .log .now)) (l .i) (search needs) (l .inv .0) (c .before .entry-declared .ensures ∙ ap (entryDeclared (schemaOf (a .schema .now))) (c .before .before .entry-at .ensures)) (c .if1 .left) (l .inv .1))
+    let l = c .before .before .before .before .loop in (
+      search needs,
+      λ sc e.
+          entry-more (entryDeclared sc) (logOf (c .before .before .before .before .before .before .before .args .log .now)) (l .i) (search needs) (l .inv .0)
+          (c .before .entry-declared .ensures sc e ∙ ap (entryDeclared sc) (c .before .before .entry-at .ensures)) (c .if1 .left) (l .inv .1 sc e),
+    )
 
 returns-2 : tie.Need-returns-2 Inv-loop μ-loop
 returns-2 c =
-    let a = c .before .before .before .before .before .args in
     let l = c .before .loop in
-    entries-end (entryDeclared (schemaOf (a .schema .now))) (logOf (a .log .now)) (l .i) (search needs) (l .inv .1)
+    λ sc e. entries-end (entryDeclared sc) (logOf (c .before .before .before .before .args .log .now)) (l .i) (search needs) (l .inv .1 sc e)
 
 pub log-declared-spec : {M : Type 1} → statement M
 log-declared-spec =

@@ -9,17 +9,17 @@ use Rattle.state_test.proofs.roots.child_typed.Tie as tie
 returns : tie.Need-returns
 returns c =
     let a = c .before .before .before .before .before .before .before .args in
-    λ deck. no-row (fixedIn deck (a .schema .now) (a .elements .now)) (a .p .0) (a .e .0) (c .before .before .before .before .element-type .ensures) (c .before .before .before .element-name .ensures) (found-missing (c .before .before .find-sub-element .ensures) (c .enum-told .given .1))
+    λ deck. no-row (fixedIn deck (a .schema .now) (a .elements .now)) (a .p .0) (a .e .0) (c .before .before .before .before .element-type .ensures) (c .before .before .before .element-name .ensures) (found-missing (c .before .before .row-of-name .ensures) (c .enum-told .given .1))
 
 row-child-requires : tie.Need-row-child-requires
 row-child-requires c κs =
-    let h = found-within (c .before .before .before .find-sub-element .ensures) (c .before .i .given .1) in
+    let h = found-within (c .before .before .before .row-of-name .ensures) (c .before .i .given .1) in
     search needs
 
 returns-2 : tie.Need-returns-2
 returns-2 c =
     let a = c .before .before .before .before .before .before .before .before .before .before .before .before .args in
-    λ deck. some-row (fixedIn deck (a .schema .now) (a .elements .now)) (a .p .0) (a .e .0) (c .before .before .before .before .before .before .before .before .before .element-type .ensures) (c .before .before .before .before .before .before .before .before .element-name .ensures) (found-at (c .before .before .before .before .before .before .before .find-sub-element .ensures) (c .before .before .before .before .before .i .given .1)) (c .before .before .before .row-child .ensures) (c .before .before .element-type2 .ensures)
+    λ deck. some-row (fixedIn deck (a .schema .now) (a .elements .now)) (a .p .0) (a .e .0) (c .before .before .before .before .before .before .before .before .before .element-type .ensures) (c .before .before .before .before .before .before .before .before .element-name .ensures) (found-at (c .before .before .before .before .before .before .before .row-of-name .ensures) (c .before .before .before .before .before .i .given .1)) (c .before .before .before .row-child .ensures) (c .before .before .element-type2 .ensures)
 
 pub child-typed-spec : {M : Type 1} → statement M
 child-typed-spec =

@@ -1,5 +1,5 @@
 -- `roots::list_typed` meets its contract. Assumes nothing.
-use mathlib.Core.Path.{_≡_, refl, ap, subst, _∙_}
+use mathlib.Core.Path.{_≡_, refl, sym, ap, subst, _∙_}
 use mathlib.Core.List.{List}
 use Prim.Native.Nat.{ℕ, _-_}
 use lib.ListN.{getD, drop}
@@ -8,7 +8,8 @@ use Rattle.tables.specs.Records.{child, listOf}
 use Rattle.tables.specs.ModelTable.{modelOf, ItemBelow}
 use Rattle.tables.proofs.Laws.ModelTable.{item-below}
 use Rattle.state_test.specs.StateTest.{itemTyped, fixedIn}
-use Rattle.state_test.proofs.Laws.Scans.{each-stop, each-more, each-end}
+use Rattle.tables.proofs.Laws.Scans.{all-more, all-stop, all-end}
+use Rattle.state_test.proofs.Laws.Answers.{passed, failed}
 use borrow.Author.Needs.{needs}
 use Rattle.state_test.proofs.roots.list_typed.Statement.{statement}
 use Rattle.state_test.proofs.roots.list_typed.Tie as tie
@@ -34,17 +35,17 @@ item-typed-requires c κs =
 returns : tie.Need-returns Inv-loop μ-loop
 returns c =
     let a = c .before .before .before .before .before .before .before .before .before .args in
-    λ deck. each-stop (itemTyped (fixedIn deck (a .schema .now) (a .elements .now)) (a .p)) (listOf (modelOf (a .model .now)) (a .p)) (child 0) (c .before .before .before .before .loop .i) (search needs) (c .before .item-typed .ensures deck ∙ ap (itemTyped (fixedIn deck (a .schema .now) (a .elements .now)) (a .p)) (c .before .before .item-at .ensures)) (c .if1 .taken) (c .before .before .before .before .loop .inv deck)
+    λ deck. sym (all-stop (itemTyped (fixedIn deck (a .schema .now) (a .elements .now)) (a .p)) (listOf (modelOf (a .model .now)) (a .p)) (c .before .before .before .before .loop .i) (child 0) (search needs) (failed (c .before .item-typed .ensures deck ∙ ap (itemTyped (fixedIn deck (a .schema .now) (a .elements .now)) (a .p)) (c .before .before .item-at .ensures)) (c .if1 .taken))) ∙ (c .before .before .before .before .loop .inv deck)
 
 loop-again : tie.Need-loop-again Inv-loop μ-loop
 loop-again c =
     let a = c .before .before .before .before .before .before .before .before .before .args in
-    λ deck. each-more (itemTyped (fixedIn deck (a .schema .now) (a .elements .now)) (a .p)) (listOf (modelOf (a .model .now)) (a .p)) (child 0) (c .before .before .before .before .loop .i) (search needs) (c .before .item-typed .ensures deck ∙ ap (itemTyped (fixedIn deck (a .schema .now) (a .elements .now)) (a .p)) (c .before .before .item-at .ensures)) (c .if1 .left) (c .before .before .before .before .loop .inv deck)
+    λ deck. all-more (itemTyped (fixedIn deck (a .schema .now) (a .elements .now)) (a .p)) (listOf (modelOf (a .model .now)) (a .p)) (c .before .before .before .before .loop .i) (child 0) (search needs) (passed (c .before .item-typed .ensures deck ∙ ap (itemTyped (fixedIn deck (a .schema .now) (a .elements .now)) (a .p)) (c .before .before .item-at .ensures)) (c .if1 .left)) ∙ (c .before .before .before .before .loop .inv deck)
 
 returns-2 : tie.Need-returns-2 Inv-loop μ-loop
 returns-2 c =
     let a = c .before .before .before .before .before .before .args in
-    λ deck. each-end (itemTyped (fixedIn deck (a .schema .now) (a .elements .now)) (a .p)) (listOf (modelOf (a .model .now)) (a .p)) (c .before .loop .i) (search needs) (c .before .loop .inv deck)
+    λ deck. sym (all-end (itemTyped (fixedIn deck (a .schema .now) (a .elements .now)) (a .p)) (listOf (modelOf (a .model .now)) (a .p)) (c .before .loop .i) (search needs)) ∙ (c .before .loop .inv deck)
 
 pub list-typed-spec : {M : Type 1} → statement M
 list-typed-spec =

@@ -6,7 +6,7 @@ use borrow.Author.Tests.{not-true, not-false}
 use lib.ListN.{length, drop}
 use Rattle.tables.specs.Lists.{allOf}
 use Rattle.table_test.specs.ModelTest.{cellInRange}
-use Rattle.table_test.proofs.Laws.Scans.{all-more, all-stop, all-end}
+use Rattle.tables.proofs.Laws.Scans.{all-more, all-stop, all-end}
 use Rattle.table_test.proofs.model_test.cells_in_range.Statement.{statement}
 use Rattle.table_test.proofs.model_test.cells_in_range.Tie as tie
 

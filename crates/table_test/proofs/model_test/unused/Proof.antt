@@ -1,8 +1,8 @@
 -- `table_test::model_test::unused` meets its contract. Assumes nothing.
 use mathlib.Core.Path.{sym, _∙_}
-use borrow.Author.Needs.{needs}
 use borrow.Author.Tests.{not-true, not-false}
 use Rattle.table_test.specs.ModelTest.{modelUnused}
+use borrow.Author.Needs.{needs}
 use Rattle.table_test.proofs.model_test.unused.Statement.{statement}
 use Rattle.table_test.proofs.model_test.unused.Tie as tie
 
@@ -22,13 +22,13 @@ returns-2 c =
 returns-3 : tie.Need-returns-3
 unfolding modelUnused
 returns-3 c =
-    let r = c .before .before .before .before .before .before .before .all-zero in
-    let q = c .before .before .before .before .all-zero2 in
+    let r = c .before .before .before .before .before .before .before .before .all-zero in
+    let q = c .before .before .before .before .before .all-zero2 in
     let p = c .before .all-zero3 in
     rw (
       modelUnused,
-      sym (r .ensures) ∙ not-false (r .result) (c .before .before .before .before .before .before .if1 .left),
-      sym (q .ensures) ∙ not-false (q .result) (c .before .before .before .if2 .left),
+      sym (r .ensures) ∙ not-false (r .result) (c .before .before .before .before .before .before .before .if1 .left),
+      sym (q .ensures) ∙ not-false (q .result) (c .before .before .before .before .if2 .left),
       sym (p .ensures) ∙ not-true (p .result) (c .if3 .taken),
     )
 
@@ -37,12 +37,12 @@ unfolding modelUnused
 returns-4 c =
     let r = c .before .before .before .before .before .before .before .before .before .before .all-zero in
     let q = c .before .before .before .before .before .before .before .all-zero2 in
-    let p = c .before .before .before .before .all-zero3 in
+    let p = c .before .before .before .all-zero3 in
     rw (
       modelUnused,
       sym (r .ensures) ∙ not-false (r .result) (c .before .before .before .before .before .before .before .before .before .if1 .left),
       sym (q .ensures) ∙ not-false (q .result) (c .before .before .before .before .before .before .if2 .left),
-      sym (p .ensures) ∙ not-false (p .result) (c .before .before .before .if3 .left),
+      sym (p .ensures) ∙ not-false (p .result) (c .before .before .if3 .left),
     )
     (c .all-zero4 .ensures)
 
@@ -63,6 +63,7 @@ unused-spec =
     (λ c. search needs)
     (λ c. search needs)
     (λ c. search needs)
+    (λ c. search needs)
     (λ c κs. search needs)
     returns-2
     (λ c. search needs)
@@ -71,10 +72,10 @@ unused-spec =
     (λ c. search needs)
     (λ c. search needs)
     (λ c. search needs)
+    (λ c. search needs)
+    (λ c. search needs)
     (λ c κs. search needs)
     returns-3
-    (λ c. search needs)
-    (λ c. search needs)
     (λ c. search needs)
     (λ c. search needs)
     (λ c. search needs)

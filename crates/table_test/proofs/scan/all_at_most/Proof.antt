@@ -6,7 +6,7 @@ use borrow.Author.Tests.{le-leb, lt-leb}
 use lib.ListN.{length, getD, drop}
 use Rattle.tables.specs.Lists.{allOf}
 use Rattle.table_test.specs.ModelTest.{atMost}
-use Rattle.table_test.proofs.Laws.Scans.{all-more, all-stop, all-end}
+use Rattle.tables.proofs.Laws.Scans.{all-more, all-stop, all-end}
 use Rattle.table_test.proofs.scan.all_at_most.Statement.{statement}
 use Rattle.table_test.proofs.scan.all_at_most.Tie as tie
 

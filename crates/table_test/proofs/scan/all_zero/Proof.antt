@@ -6,7 +6,7 @@ use borrow.Author.Tests.{eq-eqb, ne-eqb}
 use lib.ListN.{length, getD, drop}
 use Rattle.tables.specs.Lists.{allOf}
 use Rattle.table_test.specs.ModelTest.{isZero}
-use Rattle.table_test.proofs.Laws.Scans.{all-more, all-stop, all-end}
+use Rattle.tables.proofs.Laws.Scans.{all-more, all-stop, all-end}
 use Rattle.table_test.proofs.scan.all_zero.Statement.{statement}
 use Rattle.table_test.proofs.scan.all_zero.Tie as tie
 

@@ -1,86 +1,73 @@
 -- `table_test::schema_test::is_schema_table` meets its contract. Assumes nothing.
-use Rattle.table_test.specs.SchemaTest.{isSchemaTable}
-use lib.ListN.{length, getD}
-use borrow.Author.Tests.{eq-eqb, ne-eqb, le-leb, lt-leb, not-true, not-false}
+use Rattle.table_test.specs.SchemaTest.{schemaTests, isSchemaTable}
+use Rattle.table_test.proofs.Laws.RowsTest.{every-fails}
+use lib.ListN.{length}
+use borrow.Author.Tests.{eq-eqb, ne-eqb, not-true, not-false}
 use native.Mathlib.Omega.{arith}
 use mathlib.Core.Path.{sym, _∙_}
+use Rattle.table_test.proofs.Laws.AreaTest.{area-parts}
+use Rattle.table_test.specs.declared.area_test.Area.the-variants.{Files}
+use lib.ListN.{getD}
+use Rattle.tables.specs.Cells.{between}
 use borrow.Author.Needs.{needs}
 use Rattle.table_test.proofs.schema_test.is_schema_table.Statement.{statement}
 use Rattle.table_test.proofs.schema_test.is_schema_table.Tie as tie
+use Rattle.tables.specs.SchemaTable.{schemaSize, filesAt}
 
 returns : tie.Need-returns
 unfolding isSchemaTable
 returns c =
-    let r = c .before .before .args .t .now in
-    rw (isSchemaTable, ne-eqb (length r) 5892 (λ e. omega arith))
+    let t = c .before .before .args .t .now in
+    every-fails (schemaTests t) 0 (ne-eqb (length t) schemaSize (λ e. omega arith))
 
 returns-2 : tie.Need-returns-2
 unfolding isSchemaTable
 returns-2 c =
-    let r = c .before .before .before .before .args .t .now in
-    rw (isSchemaTable, eq-eqb (length r) 5892 (omega arith), lt-leb (getD r 0 0) 128 (omega arith))
+    let p = c .before .passes in
+    every-fails (schemaTests (c .before .before .before .before .before .before .args .t .now)) 1 (sym (p .ensures) ∙ not-true (p .result) (c .if2 .taken))
+
+files-ascend-requires : tie.Need-files-ascend-requires
+files-ascend-requires c κs =
+    let t = c .before .before .before .before .before .before .before .before .before .before .before .before .before .before .before .before .args .t .now in
+    let p = c .before .before .before .before .before .before .before .before .before .before .before .passes in
+    let few = area-parts Files (getD t 3 0) (between filesAt schemaSize t) (sym (p .ensures) ∙ not-false (p .result) (c .before .before .before .before .before .before .before .before .before .before .if2 .left)) .0 in
+    search needs
 
 returns-3 : tie.Need-returns-3
 unfolding isSchemaTable
 returns-3 c =
-    let r = c .before .before .before .before .before .before .args .t .now in
-    rw (isSchemaTable, eq-eqb (length r) 5892 (omega arith), le-leb (getD r 0 0) 128 (omega arith), lt-leb (getD r 1 0) 128 (omega arith))
-
-returns-4 : tie.Need-returns-4
-unfolding isSchemaTable
-returns-4 c =
-    let r = c .before .before .before .before .before .before .before .before .args .t .now in
-    rw (isSchemaTable, eq-eqb (length r) 5892 (omega arith), le-leb (getD r 0 0) 128 (omega arith), le-leb (getD r 1 0) 128 (omega arith), lt-leb (getD r 2 0) 512 (omega arith))
-
-returns-5 : tie.Need-returns-5
-unfolding isSchemaTable
-returns-5 c =
-    let r = c .before .before .before .before .before .before .before .before .before .before .args .t .now in
-    rw (isSchemaTable, eq-eqb (length r) 5892 (omega arith), le-leb (getD r 0 0) 128 (omega arith), le-leb (getD r 1 0) 128 (omega arith), le-leb (getD r 2 0) 512 (omega arith), lt-leb (getD r 3 0) 64 (omega arith))
-
-returns-6 : tie.Need-returns-6
-unfolding isSchemaTable
-returns-6 c =
-    let r = c .before .before .before .before .before .before .before .before .before .before .before .before .before .args .t .now in
-    let q = c .before .types-pass in
-    rw (isSchemaTable, eq-eqb (length r) 5892 (omega arith), le-leb (getD r 0 0) 128 (omega arith), le-leb (getD r 1 0) 128 (omega arith), le-leb (getD r 2 0) 512 (omega arith), le-leb (getD r 3 0) 64 (omega arith), sym (q .ensures) ∙ not-true (q .result) (c .if6 .taken))
-
-returns-7 : tie.Need-returns-7
-unfolding isSchemaTable
-returns-7 c =
-    let r = c .before .before .before .before .before .before .before .before .before .before .before .before .before .before .before .before .args .t .now in
-    let q = c .before .before .before .before .types-pass in
-    let p = c .before .groups-pass in
-    rw (isSchemaTable, eq-eqb (length r) 5892 (omega arith), le-leb (getD r 0 0) 128 (omega arith), le-leb (getD r 1 0) 128 (omega arith), le-leb (getD r 2 0) 512 (omega arith), le-leb (getD r 3 0) 64 (omega arith), sym (q .ensures) ∙ not-false (q .result) (c .before .before .before .if6 .left), sym (p .ensures) ∙ not-true (p .result) (c .if7 .taken))
-
-returns-8 : tie.Need-returns-8
-unfolding isSchemaTable
-returns-8 c =
-    let r = c .before .before .before .before .before .before .before .before .before .before .before .before .before .before .before .before .before .before .before .args .t .now in
-    let q = c .before .before .before .before .before .before .before .types-pass in
-    let p = c .before .before .before .before .groups-pass in
-    let o = c .before .rows-pass in
-    rw (isSchemaTable, eq-eqb (length r) 5892 (omega arith), le-leb (getD r 0 0) 128 (omega arith), le-leb (getD r 1 0) 128 (omega arith), le-leb (getD r 2 0) 512 (omega arith), le-leb (getD r 3 0) 64 (omega arith), sym (q .ensures) ∙ not-false (q .result) (c .before .before .before .before .before .before .if6 .left), sym (p .ensures) ∙ not-false (p .result) (c .before .before .before .if7 .left), sym (o .ensures) ∙ not-true (o .result) (c .if8 .taken))
-
-returns-9 : tie.Need-returns-9
-unfolding isSchemaTable
-returns-9 c =
-    let r = c .before .before .before .before .before .before .before .before .before .before .before .before .before .before .before .before .before .before .before .before .before .before .args .t .now in
-    let q = c .before .before .before .before .before .before .before .before .before .before .types-pass in
-    let p = c .before .before .before .before .before .before .before .groups-pass in
-    let o = c .before .before .before .before .rows-pass in
-    let n = c .before .files-pass in
-    rw (isSchemaTable, eq-eqb (length r) 5892 (omega arith), le-leb (getD r 0 0) 128 (omega arith), le-leb (getD r 1 0) 128 (omega arith), le-leb (getD r 2 0) 512 (omega arith), le-leb (getD r 3 0) 64 (omega arith), sym (q .ensures) ∙ not-false (q .result) (c .before .before .before .before .before .before .before .before .before .if6 .left), sym (p .ensures) ∙ not-false (p .result) (c .before .before .before .before .before .before .if7 .left), sym (o .ensures) ∙ not-false (o .result) (c .before .before .before .if8 .left), sym (n .ensures) ∙ not-true (n .result) (c .if9 .taken))
-
-returns-10 : tie.Need-returns-10
-unfolding isSchemaTable
-returns-10 c =
-    let r = c .before .before .before .before .before .before .before .before .before .before .before .before .before .before .before .before .before .before .before .before .before .before .args .t .now in
-    let q = c .before .before .before .before .before .before .before .before .before .before .types-pass in
-    let p = c .before .before .before .before .before .before .before .groups-pass in
-    let o = c .before .before .before .before .rows-pass in
-    let n = c .before .files-pass in
-    rw (isSchemaTable, eq-eqb (length r) 5892 (omega arith), le-leb (getD r 0 0) 128 (omega arith), le-leb (getD r 1 0) 128 (omega arith), le-leb (getD r 2 0) 512 (omega arith), le-leb (getD r 3 0) 64 (omega arith), sym (q .ensures) ∙ not-false (q .result) (c .before .before .before .before .before .before .before .before .before .if6 .left), sym (p .ensures) ∙ not-false (p .result) (c .before .before .before .before .before .before .if7 .left), sym (o .ensures) ∙ not-false (o .result) (c .before .before .before .if8 .left), sym (n .ensures) ∙ not-false (n .result) (c .if9 .left))
+    let p = c .before .before .before .before .before .before .before .before .before .before .before .before .passes in
+    let files = sym (p .ensures) ∙ not-false (p .result) (c .before .before .before .before .before .before .before .before .before .before .before .if2 .left) in
+    rw (eq-eqb (length (c .before .before .before .before .before .before .before .before .before .before .before .before .before .before .before .before .before .args .t .now)) schemaSize (omega arith), files, c .before .before .before .before .before .before .before .before .passes2 .ensures, c .before .before .before .before .before .passes3 .ensures, c .before .before .passes4 .ensures, c .files-ascend .ensures)
 
 pub is-schema-table-spec : {M : Type 1} → statement M
-is-schema-table-spec = tie.close (tie.spec returns (λ c. search needs) returns-2 (λ c. search needs) returns-3 (λ c. search needs) returns-4 (λ c. search needs) returns-5 (λ c. search needs) (λ c. search needs) (λ c. search needs) (λ c κs. search needs) returns-6 (λ c. search needs) (λ c. search needs) (λ c. search needs) (λ c κs. search needs) returns-7 (λ c. search needs) (λ c. search needs) (λ c. search needs) (λ c κs. search needs) returns-8 (λ c. search needs) (λ c. search needs) (λ c. search needs) (λ c κs. search needs) returns-9 returns-10)
+is-schema-table-spec =
+    tie.close
+    (tie.spec
+    returns
+    (λ c. search needs)
+    (λ c. search needs)
+    (λ c. search needs)
+    (λ c. search needs)
+    (λ c κs. search needs)
+    returns-2
+    (λ c. search needs)
+    (λ c. search needs)
+    (λ c. search needs)
+    (λ c. search needs)
+    (λ c κs. search needs)
+    (λ c. search needs)
+    (λ c. search needs)
+    (λ c. search needs)
+    (λ c. search needs)
+    (λ c κs. search needs)
+    (λ c. search needs)
+    (λ c. search needs)
+    (λ c. search needs)
+    (λ c. search needs)
+    (λ c κs. search needs)
+    (λ c. search needs)
+    (λ c. search needs)
+    (λ c. search needs)
+    files-ascend-requires
+    returns-3)

@@ -1,6 +1,6 @@
 -- `table_test::test::list_deeper` meets its contract. Assumes nothing.
 use Rattle.table_test.proofs.Laws.TablesTest.{item-stop, item-more, joined-item, joined-depth}
-use Rattle.table_test.proofs.Laws.Scans.{all-end}
+use Rattle.tables.proofs.Laws.Scans.{all-end}
 use Rattle.tables.specs.Lists.{allOf}
 use Rattle.tables.specs.Records.{listOf}
 use Rattle.tables.specs.ElementsTable.{elementsOf}

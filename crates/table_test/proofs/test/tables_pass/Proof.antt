@@ -1,172 +1,102 @@
 -- `table_test::test::tables_pass` meets its contract. Assumes nothing.
+use Rattle.table_test.proofs.Laws.RowsTest.{every-fails}
 use Rattle.table_test.proofs.Laws.ElementsTest.{elements-length, few-texts}
 use Rattle.table_test.proofs.Laws.SchemaTest.{schema-length}
 use Rattle.table_test.proofs.Laws.TablesTest.{model-length, joined}
-use Rattle.table_test.specs.TablesTest.{tablesPass}
+use Rattle.table_test.specs.SchemaTest.{isSchemaTable}
+use Rattle.table_test.specs.ElementsTest.{isElementsTable}
+use Rattle.table_test.specs.ModelTest.{isModelTable}
+use Rattle.table_test.specs.TablesTest.{tablesTests, tablesPass}
 use lib.ListN.{length, getD}
 use borrow.Author.Tests.{eq-eqb, ne-eqb, not-true, not-false}
 use native.Mathlib.Omega.{arith}
-use mathlib.Core.Path.{sym, _∙_}
+use mathlib.Core.Bool.{Bool, true}
+use mathlib.Core.List.{List}
+use mathlib.Core.Path.{_≡_, sym, _∙_}
 use borrow.Author.Needs.{needs}
 use Rattle.table_test.proofs.test.tables_pass.Statement.{statement}
 use Rattle.table_test.proofs.test.tables_pass.Tie as tie
+use Rattle.tables.specs.ElementsTable.{elementsSize}
+
+tests : tie.Start → List Bool
+tests c = tablesTests (length (c .args .deck .now)) (c .args .schema .now) (c .args .elements .now) (c .args .model .now) (c .args .log .now)
+
+schema-passed : (c : tie.Else1) → isSchemaTable (c .before .before .before .before .before .before .before .args .schema .now) ≡ true
+schema-passed c = sym (c .before .is-schema-table .ensures) ∙ not-false (c .before .is-schema-table .result) (c .if1 .left)
+
+elements-passed : (c : tie.Else2) → isElementsTable (getD (c .before .before .before .before .before .before .before .before .before .before .args .schema .now) 0 0) (length (c .before .before .before .before .before .before .before .before .before .before .args .deck .now)) (c .before .before .before .before .before .before .before .before .before .before .args .elements .now) ≡ true
+elements-passed c = sym (c .before .is-elements-table .ensures) ∙ not-false (c .before .is-elements-table .result) (c .if2 .left)
+
+model-passed : (c : tie.Else3) → isModelTable (getD (c .before .before .before .before .before .before .before .before .before .before .before .before .before .args .elements .now) 1 0) (c .before .before .before .before .before .before .before .before .before .before .before .before .before .args .model .now) ≡ true
+model-passed c = sym (c .before .is-model-table .ensures) ∙ not-false (c .before .is-model-table .result) (c .if3 .left)
+
+elements-size : (c : tie.Else2) → length (c .before .before .before .before .before .before .before .before .before .before .args .elements .now) ≡ elementsSize
+elements-size c = elements-length (getD (c .before .before .before .before .before .before .before .before .before .before .args .schema .now) 0 0) (length (c .before .before .before .before .before .before .before .before .before .before .args .deck .now)) (c .before .before .before .before .before .before .before .before .before .before .args .elements .now) (elements-passed c)
 
 returns : tie.Need-returns
-unfolding tablesPass
-returns c =
-    let a = c .before .before .before .before .before .before .before .args in
-    let sc = a .schema .now in
-    let es = a .elements .now in
-    let m = a .model .now in
-    let q = c .before .is-schema-table in
-    rw (tablesPass, sym (q .ensures) ∙ not-true (q .result) (c .if1 .taken))
+unfolding tests tablesPass
+returns c = every-fails (tests (c .before .before .before .before .before .before .before)) 0 (sym (c .before .is-schema-table .ensures) ∙ not-true (c .before .is-schema-table .result) (c .if1 .taken))
 
 shared-slice-read-is-elements-table : tie.Need-shared-slice-read-is-elements-table
-shared-slice-read-is-elements-table c =
-    let a = c .before .before .before .before .before .before .before .before .args in
-    let sc = a .schema .now in
-    let es = a .elements .now in
-    let m = a .model .now in
-    let q = c .before .before .is-schema-table in
-    let s = schema-length sc (sym (q .ensures) ∙ not-false (q .result) (c .before .if1 .left)) in
-    search needs
+shared-slice-read-is-elements-table c = let s = schema-length (c .before .before .before .before .before .before .before .before .args .schema .now) (schema-passed (c .before)) in search needs
 
 returns-2 : tie.Need-returns-2
-unfolding tablesPass
-returns-2 c =
-    let a = c .before .before .before .before .before .before .before .before .before .before .args in
-    let sc = a .schema .now in
-    let es = a .elements .now in
-    let m = a .model .now in
-    let q = c .before .before .before .before .is-schema-table in
-    let p = c .before .is-elements-table in
-    rw (tablesPass, sym (q .ensures) ∙ not-false (q .result) (c .before .before .before .if1 .left), sym (p .ensures) ∙ not-true (p .result) (c .if2 .taken))
+unfolding tests tablesPass
+returns-2 c = every-fails (tests (c .before .before .before .before .before .before .before .before .before .before)) 1 (sym (c .before .is-elements-table .ensures) ∙ not-true (c .before .is-elements-table .result) (c .if2 .taken))
 
 shared-slice-read-is-model-table : tie.Need-shared-slice-read-is-model-table
-shared-slice-read-is-model-table c =
-    let a = c .before .before .before .before .before .before .before .before .before .before .before .args in
-    let sc = a .schema .now in
-    let es = a .elements .now in
-    let m = a .model .now in
-    let p = c .before .before .is-elements-table in
-    let s = elements-length (getD sc 0 0) (length (a .deck .now)) es (sym (p .ensures) ∙ not-false (p .result) (c .before .if2 .left)) in
-    search needs
+shared-slice-read-is-model-table c = let s = elements-size (c .before) in search needs
 
 is-model-table-requires : tie.Need-is-model-table-requires
-is-model-table-requires c κs =
-    let a = c .before .before .before .before .before .before .before .before .before .before .before .args in
-    let sc = a .schema .now in
-    let es = a .elements .now in
-    let m = a .model .now in
-    let p = c .before .before .is-elements-table in
-    few-texts (getD sc 0 0) (length (a .deck .now)) es (sym (p .ensures) ∙ not-false (p .result) (c .before .if2 .left))
+is-model-table-requires c κs = few-texts (getD (c .before .before .before .before .before .before .before .before .before .before .before .args .schema .now) 0 0) (length (c .before .before .before .before .before .before .before .before .before .before .before .args .deck .now)) (c .before .before .before .before .before .before .before .before .before .before .before .args .elements .now) (elements-passed (c .before))
 
 returns-3 : tie.Need-returns-3
-unfolding tablesPass
-returns-3 c =
-    let a = c .before .before .before .before .before .before .before .before .before .before .before .before .before .args in
-    let sc = a .schema .now in
-    let es = a .elements .now in
-    let m = a .model .now in
-    let q = c .before .before .before .before .before .before .before .is-schema-table in
-    let p = c .before .before .before .before .is-elements-table in
-    let o = c .before .is-model-table in
-    rw (tablesPass, sym (q .ensures) ∙ not-false (q .result) (c .before .before .before .before .before .before .if1 .left), sym (p .ensures) ∙ not-false (p .result) (c .before .before .before .if2 .left), sym (o .ensures) ∙ not-true (o .result) (c .if3 .taken))
+unfolding tests tablesPass
+returns-3 c = every-fails (tests (c .before .before .before .before .before .before .before .before .before .before .before .before .before)) 2 (sym (c .before .is-model-table .ensures) ∙ not-true (c .before .is-model-table .result) (c .if3 .taken))
 
-shared-slice-read-is-log-table : tie.Need-shared-slice-read-is-log-table
-shared-slice-read-is-log-table c =
+shared-slice-read-if4 : tie.Need-shared-slice-read-if4
+shared-slice-read-if4 c =
     let a = c .before .before .before .before .before .before .before .before .before .before .before .before .before .before .args in
-    let sc = a .schema .now in
-    let es = a .elements .now in
-    let m = a .model .now in
-    let p = c .before .before .before .before .before .is-elements-table in
-    let s = elements-length (getD sc 0 0) (length (a .deck .now)) es (sym (p .ensures) ∙ not-false (p .result) (c .before .before .before .before .if2 .left)) in
+    let s = model-length (getD (a .schema .now) 0 0) (length (a .deck .now)) (a .elements .now) (elements-passed (c .before .before .before .before)) (a .model .now) (model-passed (c .before)) in
     search needs
+
+shared-slice-read-if4-2 : tie.Need-shared-slice-read-if4-2
+shared-slice-read-if4-2 c = let s = elements-size (c .before .before .before .before .before) in search needs
 
 returns-4 : tie.Need-returns-4
-unfolding tablesPass
-returns-4 c =
-    let a = c .before .before .before .before .before .before .before .before .before .before .before .before .before .before .before .before .args in
-    let sc = a .schema .now in
-    let es = a .elements .now in
-    let m = a .model .now in
-    let q = c .before .before .before .before .before .before .before .before .before .before .is-schema-table in
-    let p = c .before .before .before .before .before .before .before .is-elements-table in
-    let o = c .before .before .before .before .is-model-table in
-    let n = c .before .is-log-table in
-    rw (tablesPass, sym (q .ensures) ∙ not-false (q .result) (c .before .before .before .before .before .before .before .before .before .if1 .left), sym (p .ensures) ∙ not-false (p .result) (c .before .before .before .before .before .before .if2 .left), sym (o .ensures) ∙ not-false (o .result) (c .before .before .before .if3 .left), sym (n .ensures) ∙ not-true (n .result) (c .if4 .taken))
+unfolding tests tablesPass
+returns-4 c = every-fails (tests (c .before .before .before .before .before .before .before .before .before .before .before .before .before .before .before .before)) 3 (ne-eqb (getD (c .before .before .before .before .before .before .before .before .before .before .before .before .before .before .before .before .args .model .now) 0 0) (getD (c .before .before .before .before .before .before .before .before .before .before .before .before .before .before .before .before .args .elements .now) 0 0) (λ e. omega arith))
 
-shared-slice-read-if5 : tie.Need-shared-slice-read-if5
-shared-slice-read-if5 c =
-    let a = c .before .before .before .before .before .before .before .before .before .before .before .before .before .before .before .before .before .args in
-    let sc = a .schema .now in
-    let es = a .elements .now in
-    let m = a .model .now in
-    let p = c .before .before .before .before .before .before .before .before .is-elements-table in
-    let o = c .before .before .before .before .before .is-model-table in
-    let s = model-length (getD sc 0 0) (length (a .deck .now)) es (sym (p .ensures) ∙ not-false (p .result) (c .before .before .before .before .before .before .before .if2 .left)) m (sym (o .ensures) ∙ not-false (o .result) (c .before .before .before .before .if3 .left)) in
-    search needs
+shared-slice-read-is-log-table : tie.Need-shared-slice-read-is-log-table
+shared-slice-read-is-log-table c = let s = elements-size (c .before .before .before .before .before .before .before) in search needs
 
-shared-slice-read-if5-2 : tie.Need-shared-slice-read-if5-2
-shared-slice-read-if5-2 c =
+depths-pass-requires : tie.Need-depths-pass-requires
+depths-pass-requires c κs =
     let a = c .before .before .before .before .before .before .before .before .before .before .before .before .before .before .before .before .before .before .args in
-    let sc = a .schema .now in
-    let es = a .elements .now in
-    let m = a .model .now in
-    let p = c .before .before .before .before .before .before .before .before .before .is-elements-table in
-    let s = elements-length (getD sc 0 0) (length (a .deck .now)) es (sym (p .ensures) ∙ not-false (p .result) (c .before .before .before .before .before .before .before .before .if2 .left)) in
-    search needs
+    joined (getD (a .schema .now) 0 0) (length (a .deck .now)) (a .elements .now) (elements-passed (c .before .before .before .before .before .before .before .before)) (a .model .now) (model-passed (c .before .before .before .before .before)) (omega arith)
 
 returns-5 : tie.Need-returns-5
 unfolding tablesPass
 returns-5 c =
-    let a = c .before .before .before .before .before .before .before .before .before .before .before .before .before .before .before .before .before .before .before .args in
-    let sc = a .schema .now in
-    let es = a .elements .now in
-    let m = a .model .now in
-    let q = c .before .before .before .before .before .before .before .before .before .before .before .before .before .is-schema-table in
-    let p = c .before .before .before .before .before .before .before .before .before .before .is-elements-table in
-    let o = c .before .before .before .before .before .before .before .is-model-table in
-    let n = c .before .before .before .before .is-log-table in
-    rw (tablesPass, sym (q .ensures) ∙ not-false (q .result) (c .before .before .before .before .before .before .before .before .before .before .before .before .if1 .left), sym (p .ensures) ∙ not-false (p .result) (c .before .before .before .before .before .before .before .before .before .if2 .left), sym (o .ensures) ∙ not-false (o .result) (c .before .before .before .before .before .before .if3 .left), sym (n .ensures) ∙ not-false (n .result) (c .before .before .before .if4 .left), ne-eqb (getD m 0 0) (getD es 0 0) (λ e. omega arith))
-
-depths-pass-requires : tie.Need-depths-pass-requires
-depths-pass-requires c κs =
-    let a = c .before .before .before .before .before .before .before .before .before .before .before .before .before .before .before .before .before .before .before .args in
-    let sc = a .schema .now in
-    let es = a .elements .now in
-    let m = a .model .now in
-    let p = c .before .before .before .before .before .before .before .before .before .before .is-elements-table in
-    let o = c .before .before .before .before .before .before .before .is-model-table in
-    joined (getD sc 0 0) (length (a .deck .now)) es (sym (p .ensures) ∙ not-false (p .result) (c .before .before .before .before .before .before .before .before .before .if2 .left)) m (sym (o .ensures) ∙ not-false (o .result) (c .before .before .before .before .before .before .if3 .left)) (omega arith)
-
-returns-6 : tie.Need-returns-6
-unfolding tablesPass
-returns-6 c =
-    let a = c .before .before .before .before .before .before .before .before .before .before .before .before .before .before .before .before .before .before .before .before .before .args in
-    let sc = a .schema .now in
-    let es = a .elements .now in
-    let m = a .model .now in
-    let q = c .before .before .before .before .before .before .before .before .before .before .before .before .before .before .before .is-schema-table in
-    let p = c .before .before .before .before .before .before .before .before .before .before .before .before .is-elements-table in
-    let o = c .before .before .before .before .before .before .before .before .before .is-model-table in
-    let n = c .before .before .before .before .before .before .is-log-table in
-    let d = c .before .depths-pass in
-    rw (tablesPass, sym (q .ensures) ∙ not-false (q .result) (c .before .before .before .before .before .before .before .before .before .before .before .before .before .before .if1 .left), sym (p .ensures) ∙ not-false (p .result) (c .before .before .before .before .before .before .before .before .before .before .before .if2 .left), sym (o .ensures) ∙ not-false (o .result) (c .before .before .before .before .before .before .before .before .if3 .left), sym (n .ensures) ∙ not-false (n .result) (c .before .before .before .before .before .if4 .left), eq-eqb (getD m 0 0) (getD es 0 0) (omega arith), sym (d .ensures) ∙ not-true (d .result) (c .if6 .taken))
-
-returns-7 : tie.Need-returns-7
-unfolding tablesPass
-returns-7 c =
-    let a = c .before .before .before .before .before .before .before .before .before .before .before .before .before .before .before .before .before .before .before .before .before .args in
-    let sc = a .schema .now in
-    let es = a .elements .now in
-    let m = a .model .now in
-    let q = c .before .before .before .before .before .before .before .before .before .before .before .before .before .before .before .is-schema-table in
-    let p = c .before .before .before .before .before .before .before .before .before .before .before .before .is-elements-table in
-    let o = c .before .before .before .before .before .before .before .before .before .is-model-table in
-    let n = c .before .before .before .before .before .before .is-log-table in
-    let d = c .before .depths-pass in
-    rw (tablesPass, sym (q .ensures) ∙ not-false (q .result) (c .before .before .before .before .before .before .before .before .before .before .before .before .before .before .if1 .left), sym (p .ensures) ∙ not-false (p .result) (c .before .before .before .before .before .before .before .before .before .before .before .if2 .left), sym (o .ensures) ∙ not-false (o .result) (c .before .before .before .before .before .before .before .before .if3 .left), sym (n .ensures) ∙ not-false (n .result) (c .before .before .before .before .before .if4 .left), eq-eqb (getD m 0 0) (getD es 0 0) (omega arith), sym (d .ensures) ∙ not-false (d .result) (c .if6 .left))
+    let same = eq-eqb (getD (c .before .before .before .before .before .before .before .before .before .before .before .before .before .before .before .before .before .before .before .args .model .now) 0 0) (getD (c .before .before .before .before .before .before .before .before .before .before .before .before .before .before .before .before .before .before .before .args .elements .now) 0 0) (omega arith) in
+    rw (schema-passed (c .before .before .before .before .before .before .before .before .before .before .before .before), elements-passed (c .before .before .before .before .before .before .before .before .before), model-passed (c .before .before .before .before .before .before), same, c .before .is-log-table .ensures, c .depths-pass .ensures)
 
 pub tables-pass-spec : {M : Type 1} → statement M
-tables-pass-spec = tie.close (tie.spec (λ c κs. search needs) returns shared-slice-read-is-elements-table (λ c κs. search needs) returns-2 shared-slice-read-is-model-table is-model-table-requires returns-3 shared-slice-read-is-log-table (λ c κs. search needs) returns-4 shared-slice-read-if5 shared-slice-read-if5-2 returns-5 depths-pass-requires returns-6 returns-7)
+tables-pass-spec =
+    tie.close
+    (tie.spec
+    (λ c κs. search needs)
+    returns
+    shared-slice-read-is-elements-table
+    (λ c κs. search needs)
+    returns-2
+    shared-slice-read-is-model-table
+    is-model-table-requires
+    returns-3
+    shared-slice-read-if4
+    shared-slice-read-if4-2
+    returns-4
+    shared-slice-read-is-log-table
+    (λ c κs. search needs)
+    depths-pass-requires
+    returns-5)

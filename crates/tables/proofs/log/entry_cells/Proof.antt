@@ -16,7 +16,7 @@ returns-2 c = rw (c .before .e2 .given .1)
 
 returns-3 : tie.Need-returns-3
 unfolding entryCells
-returns-3 c = rw (c .before .e3 .given .1)
+returns-3 c = rw (c .before .before .e3 .given .1, c .none .ensures)
 
 pub entry-cells-spec : {M : Type 1} → statement M
 entry-cells-spec =
@@ -26,6 +26,7 @@ entry-cells-spec =
     parent-cell-requires
     (λ c. search needs)
     (λ c. search needs)
+    (λ c κs. search needs)
     returns
     returns-2
     returns-3)

@@ -8,7 +8,7 @@ returns : tie.Need-returns
 returns c =
     let b = c .before .before .before .before .before .before .before .before in
     pushed (b .args .log .now) (search needs) (entryIs (b .args .e)) (search needs) (search needs) _ _ _
-    (c .before .before .before .before .log-length .ensures) (c .before .before .before .before .before .before .entry-cells .ensures) (c .before .before .put5 .ensures)
+    (c .before .before .before .before .log-length .ensures) (c .before .before .before .before .before .before .entry-cells .ensures) (c .before .before .put-entry .ensures)
 
 pub push-entry-spec : {M : Type 1} → statement M
 push-entry-spec =

@@ -15,24 +15,28 @@ item-cell-requires c κs =
     let b = c .before .before .before .before .before .before .before in
     item-weaker _ _ (itemIs (b .args .a)) (b .pre .0 .sized .count) (b .pre .1 .1 .1 .1)
 
--- where the items are back: how many cells were lent, and what the shift left in them
-items-lent : (c : tie.After-slice-known2) → itemsAt + c .before .before .before .before .before .before .before .item-total .result + 1 - itemsAt ≡ suc (contentItems (modelOf (c .before .before .before .before .before .before .before .before .before .before .before .before .args .model .now)))
+-- the entry, from where the items are back
+abbrev start : tie.After-slice-known2 → tie.Start
+start c = c .before .before .before .before .before .before .before .before .before .before .before .before
+
+-- there: how many cells were lent, and what the shift left in them
+items-lent : (c : tie.After-slice-known2) → itemsAt + c .before .before .before .before .before .before .before .item-total .result + 1 - itemsAt ≡ suc (contentItems (modelOf (start c .args .model .now)))
 items-lent c = omega (arith, c .before .before .before .before .before .before .before .item-total .ensures)
 
-starts-lent : (c : tie.After-slice-known2) → startsAt + c .before .before .before .before .before .before .before .before .before .count .result + 1 - startsAt ≡ suc (countOf (modelOf (c .before .before .before .before .before .before .before .before .before .before .before .before .args .model .now)))
+starts-lent : (c : tie.After-slice-known2) → startsAt + c .before .before .before .before .before .before .before .before .before .count .result + 1 - startsAt ≡ suc (countOf (modelOf (start c .args .model .now)))
 starts-lent c = omega (arith, c .before .before .before .before .before .before .before .before .before .count .ensures)
 
 shifted : (c : tie.After-slice-known2) → c .before .before .shift-in .last .0
     ≡ shiftIn
-    (midOf itemsAt (itemsAt + c .before .before .before .before .before .before .before .item-total .result + 1 - itemsAt) (c .before .before .before .before .before .before .before .before .before .before .before .before .args .model .now))
-    (startOf (modelOf (c .before .before .before .before .before .before .before .before .before .before .before .before .args .model .now) .lists) (c .before .before .before .before .before .before .before .before .before .before .before .before .args .e .0) + c .before .before .before .before .before .before .before .before .before .before .before .before .args .i)
-    (itemCell (itemIs (c .before .before .before .before .before .before .before .before .before .before .before .before .args .a)))
+    (midOf itemsAt (itemsAt + c .before .before .before .before .before .before .before .item-total .result + 1 - itemsAt) (start c .args .model .now))
+    (startOf (modelOf (start c .args .model .now) .lists) (start c .args .e .0) + start c .args .i)
+    (itemCell (itemIs (start c .args .a)))
 shifted c = rw (c .before .before .before .before .before .start-of .ensures .is, c .before .before .before .before .item-cell .ensures) at (c .before .before .shift-in .ensures)
 
 raise-from-requires : tie.Need-raise-from-requires
 raise-from-requires c κs =
     let d = c .before .before in
-    let b = d .before .before .before .before .before .before .before .before .before .before .before .before in
+    let b = start d in
     let xs = b .args .model .now in
     let p = b .pre .1 in
     let e = insert-starts xs (b .pre .0) (b .args .e .0) (b .args .i) (itemIs (b .args .a)) (p .0) (p .1 .0) (p .1 .1 .0) _ _ _ (items-lent d) (starts-lent d) (shifted d) in
@@ -41,14 +45,14 @@ raise-from-requires c κs =
 returns : tie.Need-returns
 returns c =
     let d = c .before .before .before .before .before in
-    let b = d .before .before .before .before .before .before .before .before .before .before .before .before in
+    let b = start d in
     let p = b .pre .1 in
     let a = itemIs (b .args .a) in
     let r = c .before .before .raise-from in
-    store-insert (b .args .model .now) (b .pre .0) (b .args .e .0) (b .args .i) a (p .0) (p .1 .0) (p .1 .1 .0) _ _ _ (r .last .0) (p .1 .1 .1) (items-lent d) (starts-lent d) (shifted d) (r .ensures)
+    store-insert (b .args .model .now) (b .pre .0) (b .args .e .0) (b .args .i) a (p .0) (p .1 .0) (p .1 .1 .0) _ _ _ (items-lent d) (starts-lent d) (shifted d) (r .last .0) (p .1 .1 .1) (r .ensures)
 
 same-length : tie.Need-same-length
-same-length c = returns c .good .size ∙ sym (c .before .before .before .before .before .before .before .before .before .before .before .before .before .before .before .before .before .pre .0 .size)
+same-length c = returns c .good .size ∙ sym (start (c .before .before .before .before .before) .pre .0 .size)
 
 pub insert-item-spec : {M : Type 1} → statement M
 insert-item-spec =

@@ -2,6 +2,7 @@
 use Prim.Native.Nat.{_<_}
 use native.Mathlib.Omega.{arith}
 use borrow.Author.Needs.{needs}
+use Rattle.tables.specs.Limits.{itemLimit}
 use Rattle.tables.specs.ModelTable.{itemCell}
 use Rattle.tables.proofs.model.item_cell.Statement.{statement}
 use Rattle.tables.proofs.model.item_cell.Tie as tie
@@ -9,7 +10,7 @@ use Rattle.tables.proofs.model.item_cell.Tie as tie
 add-result : tie.Need-add-result
 add-result c =
     let t = c .before .a2 .given .0 .0 in
-    let h : t < 2048 = rw (c .before .a2 .given .1) at (c .before .before .before .pre) in
+    let h : t < itemLimit = rw (c .before .a2 .given .1) at (c .before .before .before .pre) in
     omega arith
 
 returns : tie.Need-returns

@@ -3,6 +3,7 @@ use Prim.Native.Nat.{_<_}
 use native.Mathlib.Numerals.{add-one}
 use native.Mathlib.Omega.{arith}
 use borrow.Author.Needs.{needs}
+use Rattle.tables.specs.Limits.{elementLimit}
 use Rattle.tables.specs.ModelTable.{parentCell}
 use Rattle.tables.proofs.model.parent_cell.Statement.{statement}
 use Rattle.tables.proofs.model.parent_cell.Tie as tie
@@ -10,7 +11,7 @@ use Rattle.tables.proofs.model.parent_cell.Tie as tie
 add-result : tie.Need-add-result
 add-result c =
     let e = c .before .p .given .0 .0 .0 in
-    let h : e < 1024 = rw (c .before .p .given .1) at (c .before .before .before .pre) in
+    let h : e < elementLimit = rw (c .before .p .given .1) at (c .before .before .before .pre) in
     omega arith
 
 returns : tie.Need-returns

@@ -10,23 +10,27 @@ use Rattle.tables.proofs.Laws.ModelTable.{remove-starts, starts-some, s
 use Rattle.tables.proofs.model.remove_item.Statement.{statement}
 use Rattle.tables.proofs.model.remove_item.Tie as tie
 
--- where the items are back: how many cells were lent, and what the shift left in them
-items-lent : (c : tie.After-slice-known2) → itemsAt + c .before .before .before .before .before .before .item-total .result - itemsAt ≡ contentItems (modelOf (c .before .before .before .before .before .before .before .before .before .before .before .args .model .now))
+-- the entry, from where the items are back
+abbrev start : tie.After-slice-known2 → tie.Start
+start c = c .before .before .before .before .before .before .before .before .before .before .before
+
+-- there: how many cells were lent, and what the shift left in them
+items-lent : (c : tie.After-slice-known2) → itemsAt + c .before .before .before .before .before .before .item-total .result - itemsAt ≡ contentItems (modelOf (start c .args .model .now))
 items-lent c = omega (arith, c .before .before .before .before .before .before .item-total .ensures)
 
-starts-lent : (c : tie.After-slice-known2) → startsAt + c .before .before .before .before .before .before .before .before .count .result + 1 - startsAt ≡ suc (countOf (modelOf (c .before .before .before .before .before .before .before .before .before .before .before .args .model .now)))
+starts-lent : (c : tie.After-slice-known2) → startsAt + c .before .before .before .before .before .before .before .before .count .result + 1 - startsAt ≡ suc (countOf (modelOf (start c .args .model .now)))
 starts-lent c = omega (arith, c .before .before .before .before .before .before .before .before .count .ensures)
 
 shifted : (c : tie.After-slice-known2) → c .before .before .shift-out .last .0
     ≡ shiftOut
-    (midOf itemsAt (itemsAt + c .before .before .before .before .before .before .item-total .result - itemsAt) (c .before .before .before .before .before .before .before .before .before .before .before .args .model .now))
-    (startOf (modelOf (c .before .before .before .before .before .before .before .before .before .before .before .args .model .now) .lists) (c .before .before .before .before .before .before .before .before .before .before .before .args .e .0) + c .before .before .before .before .before .before .before .before .before .before .before .args .i)
+    (midOf itemsAt (itemsAt + c .before .before .before .before .before .before .item-total .result - itemsAt) (start c .args .model .now))
+    (startOf (modelOf (start c .args .model .now) .lists) (start c .args .e .0) + start c .args .i)
 shifted c = rw (c .before .before .before .before .start-of .ensures .is) at (c .before .before .shift-out .ensures)
 
 lower-from-requires : tie.Need-lower-from-requires
 lower-from-requires c κs =
     let d = c .before .before in
-    let b = d .before .before .before .before .before .before .before .before .before .before .before in
+    let b = start d in
     let xs = b .args .model .now in
     let p = b .pre .1 in
     let e = remove-starts xs (b .pre .0) (b .args .e .0) (b .args .i) (p .0) (p .1) _ _ _ (items-lent d) (starts-lent d) (shifted d) in
@@ -35,13 +39,13 @@ lower-from-requires c κs =
 returns : tie.Need-returns
 returns c =
     let d = c .before .before .before .before .before in
-    let b = d .before .before .before .before .before .before .before .before .before .before .before in
+    let b = start d in
     let p = b .pre .1 in
     let r = c .before .before .lower-from in
-    store-remove (b .args .model .now) (b .pre .0) (b .args .e .0) (b .args .i) (p .0) (p .1) _ _ _ (r .last .0) (items-lent d) (starts-lent d) (shifted d) (r .ensures)
+    store-remove (b .args .model .now) (b .pre .0) (b .args .e .0) (b .args .i) (p .0) (p .1) _ _ _ (items-lent d) (starts-lent d) (shifted d) (r .last .0) (r .ensures)
 
 same-length : tie.Need-same-length
-same-length c = returns c .good .size ∙ sym (c .before .before .before .before .before .before .before .before .before .before .before .before .before .before .before .before .pre .0 .size)
+same-length c = returns c .good .size ∙ sym (start (c .before .before .before .before .before) .pre .0 .size)
 
 pub remove-item-spec : {M : Type 1} → statement M
 remove-item-spec =

@@ -1,0 +1,29 @@
+-- `forged_tables::lent::put` is safe and ends: the tables keep their length. Assumes nothing.
+use mathlib.Core.Path.{_≡_}
+use Prim.Native.Nat.{_≤_, _-_}
+use lib.ListN.{length}
+use borrow.Author.Needs.{needs}
+use Rattle.forged_tables.proofs.lent.put.Statement.{statement}
+use Rattle.forged_tables.proofs.lent.put.Tie as tie
+
+abbrev Inv-loop : tie.InvT-loop
+Inv-loop t₀ from values i₀ t i = (i ≤ length values) × (length t ≡ length t₀)
+
+abbrev μ-loop : tie.MeasureT-loop
+μ-loop t₀ from values i₀ t i = length values - i
+
+pub put-spec : {M : Type 1} → statement M
+put-spec =
+    tie.close
+    (tie.spec
+    Inv-loop
+    μ-loop
+    (λ c. search needs)
+    (λ c. search needs)
+    (λ c. search needs)
+    (λ c κs. search needs)
+    (λ c. search needs)
+    (λ c. search needs)
+    (λ c. search needs)
+    (λ c. search needs)
+    (λ c. search needs))

@@ -1,0 +1,84 @@
+// The four tables, one behind the other in one slice, and what both tests say of them.
+
+use state_test::state;
+use table_test::test;
+use tables::elements::ELEMENTS_SIZE;
+use tables::log::LOG_SIZE;
+use tables::model::MODEL_SIZE;
+use tables::schema::SCHEMA_SIZE;
+
+// Where each table but the schema's begins, and the cells of all.
+pub const ELEMENTS: usize = SCHEMA_SIZE;
+
+pub const MODEL: usize = ELEMENTS + ELEMENTS_SIZE;
+
+pub const LOG: usize = MODEL + MODEL_SIZE;
+
+pub const CELLS: usize = LOG + LOG_SIZE;
+
+// Bytes of the deck that texts are held to.
+pub const DECK: usize = 200;
+
+// The value at this offset from a place, for the one there.
+fn exchange(t: &mut [u64], from: usize, offset: usize, v: u64) -> u64 {
+    if t.len() <= from {
+        return 0;
+    }
+    if t.len() - from <= offset {
+        return 0;
+    }
+    let at = from + offset;
+    let old = t[at];
+    t[at] = v;
+    old
+}
+
+// Values from a place on.
+pub fn put(t: &mut [u64], from: usize, values: &[u64]) {
+    let mut i: usize = 0;
+    while i < values.len() {
+        exchange(t, from, i, values[i]);
+        i += 1;
+    }
+}
+
+// What the test of the tables alone says, and the whole.
+pub fn ask_of(n: u64, schema: &[u64], elements: &[u64], model: &[u64], log: &[u64]) {
+    let deck = [0u8; DECK];
+    io::print_decimal(1, n);
+    if test::tables_pass(&deck, schema, elements, model, log) {
+        io::write_all(1, b" tables pass,");
+    } else {
+        io::write_all(1, b" tables refused,");
+    }
+    if state::lent_tables_pass(&deck, schema, elements, model, log) {
+        io::write_all(1, b" whole passes\n");
+    } else {
+        io::write_all(1, b" whole refused\n");
+    }
+}
+
+pub fn ask(n: u64, t: &[u64]) {
+    if t.len() != CELLS {
+        return;
+    }
+    ask_of(
+        n,
+        &t[0..ELEMENTS],
+        &t[ELEMENTS..MODEL],
+        &t[MODEL..LOG],
+        &t[LOG..CELLS],
+    );
+}
+
+// Offsets from a place, each with a wrong value: the tests with each value in turn, numbered from n on, and the number put back.
+pub fn forge(t: &mut [u64], n: u64, from: usize, cases: &[u64]) {
+    let mut i: usize = 0;
+    while i < cases.len() / 2 {
+        let offset = cases[i * 2] as usize;
+        let old = exchange(t, from, offset, cases[i * 2 + 1]);
+        ask(std::num::wrapping_add_u64(n, i as u64), t);
+        exchange(t, from, offset, old);
+        i += 1;
+    }
+}
