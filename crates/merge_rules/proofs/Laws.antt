@@ -13,6 +13,7 @@ pub mod Children
 pub mod Changes
 pub mod Moves
 pub mod Walks
+pub mod Depths
 pub mod Levels
 pub mod Merges
 pub mod SchemaRows

@@ -5,6 +5,7 @@ pub mod Import
 pub mod Level
 pub mod Log
 pub mod Calls
+pub mod TableCalls
 pub mod Book
 pub mod Unfolding
 pub mod Program
@@ -12,3 +13,4 @@ pub mod Stars
 pub mod Withdrawal
 pub mod Sound
 pub mod DeckLines
+pub mod Depth

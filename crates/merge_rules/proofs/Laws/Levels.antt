@@ -3,7 +3,7 @@ use mathlib.Core.Bool.{true, false}
 use mathlib.Core.List.{List, [], _∷_, _++_, List·Memᴰ·head, List·Memᴰ·tail, Memᴰ·cast}
 use mathlib.Core.Logic.{_⊎_, inl, inr, ⊎-elim}
 use mathlib.Core.Option.{some, mem-unique, Option·none-ne-some}
-use mathlib.Core.Path.{_≡_, refl, sym, ap, _∙_}
+use mathlib.Core.Path.{_≡_, refl, sym, ap, subst, _∙_}
 use Prim.Native.Nat.{ℕ, zero, suc, _+_, _<_}
 use native.Mathlib.Omega.{arith}
 use borrow.Author.Tests.{ne-eqb}
@@ -169,9 +169,13 @@ module _ (x : Fixed) (s : State) (inv : Inv x s) (tr : Tree) (among : In tr (x .
     unfolding childrenOf
     childrenB = ap children (ready .listsB b (ready .inTree))
 
+    onceA : Once (childrenOf start a)
+    unfolding childrenOf
+    onceA = subst Once childrenA (ready .kept .once a)
+
     walk-fits : (v : Version) → WalkFits x (childrenOf start a) (childrenOf start b) (walkLevel x (t .model) v a b)
     unfolding childrenOf
-    walk-fits v = rw (childrenA, childrenB) at (level-fits x (t .model) v a b (ready .kept .once a))
+    walk-fits v = rw (childrenA, childrenB) at (level-fits x (t .model) v a b)
 
     -- ---- restrictions
 
@@ -402,7 +406,7 @@ module _ (x : Fixed) (s : State) (inv : Inv x s) (tr : Tree) (among : In tr (x .
           (done-bind (restrictions-pending (p .restrictions) (fits .restrictions) t (merge-steps-still (ready .kept)))
           (new-items (pairedB (p .pairs)) _ 0 (p .imports) (fits .pairsA)
           (within-append (fits .imports) (fits .pairsB)) once))
-          (pairs-pending (p .pairs) (fits .pairsA) (fits .pairsB) (fits .onceA) (once-right (imported (p .imports)) once) (fits .names))))
+          (pairs-pending (p .pairs) (fits .pairsA) (fits .pairsB) (fits .onceA onceA) (once-right (imported (p .imports)) once) (fits .names))))
           (λ c _. isRefused)
 
   -- a level that is done is one of a and b; one that ends in a conflict is a path of changes

@@ -33,7 +33,7 @@ pub record PlanFits (x : Fixed) (as′ bs : List Element) (p : Plan) : Type 0 wh
   pub imports : Within (imported (p .imports)) bs
   pub pairsA : Within (pairedA (p .pairs)) as′
   pub pairsB : Within (pairedB (p .pairs)) bs
-  pub onceA : Once (pairedA (p .pairs))
+  pub onceA : Once as′ → Once (pairedA (p .pairs))
   pub names : (q : Pair) → In q (p .pairs) → nameOf x (q .a) ≡ nameOf x (q .b)
 
 -- a walk plans over these children, or finds no plan
@@ -113,7 +113,7 @@ module _ (x : Fixed) (all : List Element) where
         imports = h .imports;
         pairsA = within-more (h .pairsA);
         pairsB = h .pairsB;
-        onceA = h .onceA;
+        onceA = λ once. h .onceA (once-tail once);
         names = h .names;
       })
   restrict-fits isUnmergeable = isUnmergeable
@@ -132,20 +132,20 @@ module _ (x : Fixed) (all : List Element) where
       })
   import-fits at within isUnmergeable = isUnmergeable
 
-  pair-fits : {a b : Element} {as′ : List Element} {w : Walked} → (In a as′ → ⊥) → In b all → nameOf x a ≡ nameOf x b → WalkFits x as′ all w
+  pair-fits : {a b : Element} {as′ : List Element} {w : Walked} → In b all → nameOf x a ≡ nameOf x b → WalkFits x as′ all w
       → WalkFits x (a ∷ as′) all (pairFirst a b w)
   unfolding pairFirst
-  pair-fits {a} {b} fresh within same (isPlanned h) =
+  pair-fits {a} {b} within same (isPlanned h) =
       isPlanned
       (record {
         restrictions = within-more (h .restrictions);
         imports = h .imports;
         pairsA = within-both (h .pairsA);
         pairsB = within-cons within (h .pairsB);
-        onceA = once-cons (λ i. fresh (h .pairsA a i)) (h .onceA);
+        onceA = λ once. once-cons (λ i. once-head once (h .pairsA a i)) (h .onceA (once-tail once));
         names = each-cons (λ (q : Pair). nameOf x (q .a) ≡ nameOf x (q .b)) same (h .names);
       })
-  pair-fits fresh within same isUnmergeable = isUnmergeable
+  pair-fits within same isUnmergeable = isUnmergeable
 
   unpaired-fits : (paired : List Element) {b : Element} (at : ℕ) {as′ : List Element} {w : Walked} → In b all → WalkFits x as′ all w
       → WalkFits x as′ all (importUnpaired paired b at w)
@@ -161,7 +161,7 @@ module _ (x : Fixed) (all : List Element) where
         imports = each-nil _;
         pairsA = each-nil _;
         pairsB = each-nil _;
-        onceA = once-nil;
+        onceA = λ _. once-nil;
         names = each-nil _;
       })
 
@@ -186,28 +186,27 @@ module _ (x : Fixed) (all : List Element) where
   action-case P neither e f g i j = j
 
   walk-fits : (act : Element → Element → Action) → ((a b : Element) → ActionFits x all a b (act a b)) → (end n index : ℕ) (as′ bs paired : List Element)
-      → Once as′ → Within bs all → WalkFits x as′ all (walk act end n index as′ bs paired)
+      → Within bs all → WalkFits x as′ all (walk act end n index as′ bs paired)
   unfolding walk
-  walk-fits act fits end zero index as′ bs paired once within = leftOverA-fits as′
-  walk-fits act fits end (suc n) index [] bs paired once within = leftOverB-fits end paired [] bs within
-  walk-fits act fits end (suc n) index (a ∷ as′) [] paired once within = leftOverA-fits (a ∷ as′)
-  walk-fits act fits end (suc n) index (a ∷ as′) (b ∷ bs) paired once within =
+  walk-fits act fits end zero index as′ bs paired within = leftOverA-fits as′
+  walk-fits act fits end (suc n) index [] bs paired within = leftOverB-fits end paired [] bs within
+  walk-fits act fits end (suc n) index (a ∷ as′) [] paired within = leftOverA-fits (a ∷ as′)
+  walk-fits act fits end (suc n) index (a ∷ as′) (b ∷ bs) paired within =
       action-case (WalkFits x (a ∷ as′) all) (fits a b)
       (λ h.
-      pair-fits (once-head once) (within-head within) h
-      (walk-fits act fits end n (suc index) as′ bs (b ∷ paired) (once-tail once) (within-tail within)))
-      (λ c i h. pair-fits (once-head once) i h (walk-fits act fits end n (suc index) as′ (b ∷ bs) (c ∷ paired) (once-tail once) within))
-      (restrict-fits (walk-fits act fits end n (suc index) as′ (b ∷ bs) paired (once-tail once) within))
-      (unpaired-fits paired index (within-head within) (walk-fits act fits end n index (a ∷ as′) bs paired once (within-tail within)))
+      pair-fits (within-head within) h (walk-fits act fits end n (suc index) as′ bs (b ∷ paired) (within-tail within)))
+      (λ c i h. pair-fits i h (walk-fits act fits end n (suc index) as′ (b ∷ bs) (c ∷ paired) within))
+      (restrict-fits (walk-fits act fits end n (suc index) as′ (b ∷ bs) paired within))
+      (unpaired-fits paired index (within-head within) (walk-fits act fits end n index (a ∷ as′) bs paired (within-tail within)))
       isUnmergeable
 
 -- a level's walk plans over its children
-pub level-fits : (x : Fixed) (m : Model) (v : Version) (pa pb : Element) → Once (childrenOf m pa)
+pub level-fits : (x : Fixed) (m : Model) (v : Version) (pa pb : Element)
     → WalkFits x (childrenOf m pa) (childrenOf m pb) (walkLevel x m v pa pb)
 unfolding walkLevel
-level-fits x m v pa pb once =
+level-fits x m v pa pb =
     walk-fits x (childrenOf m pb) _ (λ a b. action-fits x m (childrenOf m pb) a b (typeOf x pa) (splittableIn (x .schema) (typeOf x pa) v)) _ _ 0
-    (childrenOf m pa) (childrenOf m pb) [] once (λ e i. i)
+    (childrenOf m pa) (childrenOf m pb) [] (λ e i. i)
 
 -- ---- no B child used twice
 

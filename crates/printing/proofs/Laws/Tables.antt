@@ -18,7 +18,7 @@ use Rattle.tables.proofs.Laws.Cells.{each-getD}
 use Rattle.tables.proofs.Laws.Lists.{getD-flat}
 use Rattle.tables.proofs.Laws.ModelTable.{start-room, total-flat, listed-below}
 use Rattle.tables.proofs.Laws.Scans.{all-at}
-use Rattle.table_test.proofs.Laws.TablesTest.{tested-tables}
+use Rattle.state_test.proofs.Laws.States.{passed-tables}
 use Rattle.state_test.proofs.Laws.Files.{no-root-set, files-stop-1}
 use Rattle.printing.specs.TreeLines.{Readable}
 
@@ -52,12 +52,6 @@ module _ (deck schema es m log : List ℕ) where
       }
 
   module _ (p : lentTablesPass deck schema es m log ≡ true) where
-    pub passed-tables : TestedTables (length deck) schema es m log
-    unfolding lentTablesPass
-    passed-tables =
-        tested-tables (length deck) schema es m log
-        (and-eq-true-iff (tablesPass (length deck) schema es m log) (stateValid (fixedIn deck schema es) (stateIn m log)) .0 p .0)
-
     files-pass : filesDeclared (fixedIn deck schema es) (stateIn m log) ≡ true
     unfolding lentTablesPass stateValid
     files-pass =
@@ -78,7 +72,7 @@ module _ (deck schema es m log : List ℕ) where
         by-count : (n : ℕ) → countOf (modelOf m) ≡ n → 0 < countOf (modelOf m)
         by-count (suc n) e = omega arith
         by-count zero e =
-            let sets = passed-tables .modelTested .good .sized .sets in
+            let sets = passed-tables deck schema es m log p .modelTested .good .sized .sets in
             let f : false ≡ filesDeclared (fixedIn deck schema es) (stateIn m log) =
             files-stop-1 (fixedIn deck schema es) (stateIn m log) (sym (no-root-set (modelOf m) (omega arith)))
             in

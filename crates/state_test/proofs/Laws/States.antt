@@ -1,5 +1,5 @@
 -- Laws of refusal 0 as a whole: what tables that pass their own test give, and the first test that fails. Assumes nothing.
-use mathlib.Core.Bool.{Bool, true, false}
+use mathlib.Core.Bool.{Bool, true, false, and-eq-true-iff}
 use mathlib.Core.List.{List, [], _∷_}
 use mathlib.Core.Path.{_≡_, _∙_}
 use Prim.Native.Nat.{ℕ, _+_, _<_}
@@ -10,7 +10,8 @@ use Rattle.tables.specs.Records.{File, Tree, Fixed, State}
 use Rattle.tables.proofs.Laws.Cells.{each-imp}
 use Rattle.table_test.specs.ElementsTest.{TreeIn}
 use Rattle.table_test.specs.SchemaTest.{FilesIn}
-use Rattle.table_test.specs.TablesTest.{tablesPass}
+use Rattle.table_test.specs.TablesTest.{tablesPass, TestedTables}
+use Rattle.table_test.proofs.Laws.TablesTest.{tested-tables}
 use Rattle.state_test.specs.StateTest.{schemaValid, filesDeclared, rootsValid, listsTyped, stateValid, lentTablesPass, fixedIn, stateIn}
 
 module _ (x : Fixed) (s : State) where
@@ -33,6 +34,13 @@ module _ (x : Fixed) (s : State) where
       state-last e g = g ∙ rw (stateValid, a, b, e)
 
 module _ (deck schema elements model log : List ℕ) where
+  -- tables that pass are what their own test finds
+  pub passed-tables : lentTablesPass deck schema elements model log ≡ true → TestedTables (length deck) schema elements model log
+  unfolding lentTablesPass
+  passed-tables p =
+      tested-tables (length deck) schema elements model log
+      (and-eq-true-iff (tablesPass (length deck) schema elements model log) (stateValid (fixedIn deck schema elements) (stateIn model log)) .0 p .0)
+
   pub lent-stop : tablesPass (length deck) schema elements model log ≡ false → false ≡ lentTablesPass deck schema elements model log
   unfolding lentTablesPass
   lent-stop e = rw (lentTablesPass, e)

@@ -1,11 +1,12 @@
 -- `print::print_trees` meets its contract. Assumes nothing.
 use borrow.Author.Tests.{not-true, not-false}
 use Rattle.state_test.proofs.Laws.Answers.{passed, failed}
-use Rattle.printing.proofs.Laws.Tables.{readable, passed-tables, root-there}
+use Rattle.printing.proofs.Laws.Tables.{readable, root-there}
 use Rattle.printing.proofs.Laws.Calls.{whole-printed, cut-printed, call-refused, call-prints}
 use borrow.Author.Needs.{needs}
 use Rattle.printing.proofs.print.print_trees.Statement.{statement}
 use Rattle.printing.proofs.print.print_trees.Tie as tie
+use Rattle.state_test.proofs.Laws.States.{passed-tables}
 
 returns : tie.Need-returns
 returns c = call-refused _ _ _ _ _ _ (failed (c .before .lent-tables-pass .ensures) (c .if1 .taken))
