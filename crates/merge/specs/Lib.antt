@@ -1,9 +1,2 @@
-pub mod Tables
-pub mod Answers
-pub mod Actions
-pub mod Places
-pub mod Keys
-pub mod Range
+pub mod Level
 pub mod Calls
-pub mod Plans
-pub mod Walks

@@ -1,7 +1,6 @@
-// The merge on the lent tables: a module for each section of the statement of rules.
+// The merge on the lent tables: Level and Pairs, and the calls.
 pub mod calls;
-pub mod import;
-pub mod log;
-pub mod pairing;
-pub mod range;
-pub mod refusals;
+pub mod counts;
+pub mod level;
+pub mod settle;
+pub mod tree;

@@ -25,6 +25,7 @@ pub mod Loaded
 pub mod PassingTables
 pub mod PassingState
 pub mod Passing
+pub mod TableCalls
 pub mod Digits
 pub mod LinesBack
 pub mod Rightmost

@@ -11,6 +11,8 @@ pub mod Unfolding
 pub mod Program
 pub mod Stars
 pub mod Withdrawal
+pub mod TableWithdrawal
 pub mod Sound
 pub mod DeckLines
 pub mod Depth
+pub mod Refused

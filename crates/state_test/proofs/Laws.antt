@@ -3,3 +3,4 @@ pub mod Files
 pub mod Roots
 pub mod Schemas
 pub mod States
+pub mod Passed

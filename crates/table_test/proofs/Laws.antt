@@ -12,3 +12,5 @@ pub mod PassingLog
 pub mod PassingModel
 pub mod PassingElements
 pub mod Passing
+pub mod Tested
+pub mod Fits

@@ -6,3 +6,4 @@ pub mod ElementsTest
 pub mod SchemaTest
 pub mod TablesTest
 pub mod Passing
+pub mod Fits

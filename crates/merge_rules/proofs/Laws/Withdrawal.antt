@@ -25,7 +25,7 @@ use Rattle.merge_rules.proofs.Laws.Undo.{rollback-steps}
 -- ---- answers
 
 -- an accepted merge's counts and state; a refused merge leaves the state
-data MergeAnswers (s : State) : Merged → Type 0 where
+pub data MergeAnswers (s : State) : Merged → Type 0 where
   accepts : (c : Counts) (t : State) → MergeAnswers s (record { answer = merged c; state = t })
   refuses : (r : Refusal) → MergeAnswers s (record { answer = mergeRefused r; state = s })
 
@@ -35,7 +35,7 @@ mergedFrom-answers s (done t) = accepts _ t
 mergedFrom-answers s (conflict e t) = refuses _
 mergedFrom-answers s (refused r) = refuses r
 
-merge-answers : (x : Fixed) (f : FileNumber) (s : State) → MergeAnswers s (merge x f s)
+pub merge-answers : (x : Fixed) (f : FileNumber) (s : State) → MergeAnswers s (merge x f s)
 unfolding merge
 merge-answers x f s =
     option-case (MergeAnswers s) (waitingTree x (s .model) f) (λ _. refuses _) (λ t _. mergedFrom-answers s (mergeTree x t s))

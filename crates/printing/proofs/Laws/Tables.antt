@@ -1,8 +1,8 @@
 -- Tables that pass refusal 0 are read without a test of their own. Assumes nothing.
-use mathlib.Core.Bool.{true, false, _&&_, and-eq-true-iff}
+use mathlib.Core.Bool.{true}
 use mathlib.Core.List.{List}
-use mathlib.Core.Path.{_≡_, refl, sym, ap, _∙_}
-use Prim.Native.Nat.{ℕ, zero, suc, _+_, _≤_, _<_}
+use mathlib.Core.Path.{_≡_, sym, ap, _∙_}
+use Prim.Native.Nat.{ℕ, _+_, _≤_, _<_}
 use native.Mathlib.Omega.{arith}
 use borrow.Author.Tests.{ltb-true}
 use lib.ListN.{length, getD}
@@ -12,14 +12,11 @@ use Rattle.tables.specs.ElementsTable.{elementsOf, noTree}
 use Rattle.tables.specs.ModelTable.{flat, startOf, countOf, modelOf}
 use Rattle.table_test.specs.ElementsTest.{TextIn, TreeIn}
 use Rattle.table_test.specs.ModelTest.{itemInRange, TestedModel}
-use Rattle.table_test.specs.TablesTest.{tablesPass, TestedTables}
-use Rattle.state_test.specs.StateTest.{schemaValid, filesDeclared, rootsValid, listsTyped, stateValid, lentTablesPass, fixedIn, stateIn}
+use Rattle.table_test.specs.TablesTest.{TestedTables}
 use Rattle.tables.proofs.Laws.Cells.{each-getD}
 use Rattle.tables.proofs.Laws.Lists.{getD-flat}
 use Rattle.tables.proofs.Laws.ModelTable.{start-room, total-flat, listed-below}
 use Rattle.tables.proofs.Laws.Scans.{all-at}
-use Rattle.state_test.proofs.Laws.States.{passed-tables}
-use Rattle.state_test.proofs.Laws.Files.{no-root-set, files-stop-1}
 use Rattle.printing.specs.TreeLines.{Readable}
 
 -- every item of a list is in the range of what it names
@@ -50,32 +47,3 @@ module _ (deck schema es m log : List ℕ) where
             ltb-true k texts (sym (ap (itemInRange (countOf (modelOf m)) texts) f) ∙ item-in-range texts m e i (t .modelTested) h);
         roots = λ i h. rw same (each-getD (TreeIn (length (elementsOf es .names))) (elementsOf es .trees) i noTree (t .elementsTested .trees) h .1);
       }
-
-  module _ (p : lentTablesPass deck schema es m log ≡ true) where
-    files-pass : filesDeclared (fixedIn deck schema es) (stateIn m log) ≡ true
-    unfolding lentTablesPass stateValid
-    files-pass =
-        let x = fixedIn deck schema es in
-        let s = stateIn m log in
-        let a = schemaValid (x .schema) in
-        let b = filesDeclared x s in
-        let c = rootsValid x in
-        let d = listsTyped x 0 (s .model .lists) in
-        let all = and-eq-true-iff (tablesPass (length deck) schema es m log) (stateValid x s) .0 p .1 in
-        let three = and-eq-true-iff (a && b && c) d .0 all .0 in
-        and-eq-true-iff a b .0 (and-eq-true-iff (a && b) c .0 three .0) .1
-
-    -- the model has a root
-    pub root-there : 0 < countOf (modelOf m)
-    root-there = by-count (countOf (modelOf m)) refl
-      where
-        by-count : (n : ℕ) → countOf (modelOf m) ≡ n → 0 < countOf (modelOf m)
-        by-count (suc n) e = omega arith
-        by-count zero e =
-            let sets = passed-tables deck schema es m log p .modelTested .good .sized .sets in
-            let f : false ≡ filesDeclared (fixedIn deck schema es) (stateIn m log) =
-            files-stop-1 (fixedIn deck schema es) (stateIn m log) (sym (no-root-set (modelOf m) (omega arith)))
-            in
-            let z : false ≡ true = f ∙ files-pass in
-            let o : _≡_ {A = ℕ} 0 1 = cc in
-            absurd (omega arith)

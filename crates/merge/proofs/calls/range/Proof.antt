@@ -12,7 +12,7 @@ use Rattle.table_test.specs.TablesTest.{TestedTables}
 use borrow.Author.Needs.{needs}
 use Rattle.merge.proofs.Laws.Calls.{range-bad, no-element, no-version, no-rows, range-found}
 use Rattle.state_test.proofs.Laws.States.{passed-tables}
-use Rattle.merge.proofs.Laws.Tables.{model-fits, type-in}
+use Rattle.table_test.proofs.Laws.Tested.{model-fits, type-in}
 use Rattle.merge.proofs.calls.range.Statement.{statement}
 use Rattle.merge.proofs.calls.range.Tie as tie
 

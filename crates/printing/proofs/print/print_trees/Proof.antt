@@ -1,7 +1,8 @@
 -- `print::print_trees` meets its contract. Assumes nothing.
 use borrow.Author.Tests.{not-true, not-false}
 use Rattle.state_test.proofs.Laws.Answers.{passed, failed}
-use Rattle.printing.proofs.Laws.Tables.{readable, root-there}
+use Rattle.state_test.proofs.Laws.Passed.{root-there}
+use Rattle.printing.proofs.Laws.Tables.{readable}
 use Rattle.printing.proofs.Laws.Calls.{whole-printed, cut-printed, call-refused, call-prints}
 use borrow.Author.Needs.{needs}
 use Rattle.printing.proofs.print.print_trees.Statement.{statement}

@@ -1,0 +1,5 @@
+pub mod Log
+pub mod Places
+pub mod Undo
+pub mod Imports
+pub mod Range

@@ -1,0 +1,13 @@
+pub mod Keys
+pub mod Siblings
+pub mod Actions
+pub mod Spreads
+pub mod Walks
+pub mod Uses
+pub mod Planning
+pub mod Rows
+pub mod Ways
+pub mod Children
+pub mod Steps
+pub mod Levels
+pub mod Laying

@@ -1,0 +1,80 @@
+-- `merge::plan::import_next` meets its contract. Assumes nothing.
+use mathlib.Core.Path.{_≡_, refl}
+use native.Mathlib.Omega.{arith}
+use lib.ListN.{length-set}
+use Rattle.pairing.proofs.Laws.Steps.{few-imported}
+use Rattle.pairing.proofs.Laws.Ways.{cursor-small, walks-skip, walks-import}
+use borrow.Author.Needs.{needs}
+use Rattle.pairing.proofs.plan.import_next.Statement.{statement}
+use Rattle.pairing.proofs.plan.import_next.Tie as tie
+use Rattle.pairing.proofs.plan.import_next.Reads as reads
+use Rattle.pairing.proofs.plan.import_next.Lts as lts
+use Rattle.pairing.proofs.plan.count_use.Reads as count-use-reads
+
+mul-if1 : tie.Need-mul-if1
+mul-if1 c =
+    let a = c .before .before .before .before .before .before .args in
+    let room = c .before .before .before .before .before .before .pre .0 in
+    let counted = c .before .before .before .before .before .before .pre .1 .0 in
+    let small = cursor-small (a .s) (a .work .now) (a .pairs .now) (a .imports .now) (a .c .a) (a .c .b) (a .c .new) room counted (c .before .before .before .before .before .before .pre .1 .1) in
+    record { fits = omega (arith, small) }
+
+shared-slice-read-if1 : tie.Need-shared-slice-read-if1
+shared-slice-read-if1 c =
+    let a = c .before .before .before .before .before .before .before .args in
+    let room = c .before .before .before .before .before .before .before .pre .0 in
+    let counted = c .before .before .before .before .before .before .before .pre .1 .0 in
+    let small = cursor-small (a .s) (a .work .now) (a .pairs .now) (a .imports .now) (a .c .a) (a .c .b) (a .c .new) room counted (c .before .before .before .before .before .before .before .pre .1 .1) in
+    omega (arith, small, counted .pairSize)
+
+returns : tie.Need-returns
+returns c =
+    let a = c .before .before .before .before .before .before .before .before .args in
+    let room = c .before .before .before .before .before .before .before .before .pre .0 in
+    let counted = c .before .before .before .before .before .before .before .before .pre .1 .0 in
+    walks-skip (a .s) (a .work .now) (a .pairs .now) (a .imports .now) (a .c .a) (a .c .b) (a .c .new) room counted (a .position) (c .before .before .before .before .before .before .before .before .pre .1 .1) (c .if1 .taken)
+
+slice-write-work-2 : tie.Need-slice-write-work-2
+slice-write-work-2 c =
+    let a = c .before .before .before .before .before .before .before .before .before .args in
+    let room = c .before .before .before .before .before .before .before .before .before .pre .0 in
+    let counted = c .before .before .before .before .before .before .before .before .before .pre .1 .0 in
+    simp length-set (omega (arith, room .behind, room .within, room .second, room .new, c .before .before .before .before .before .before .before .before .before .pre .1 .1))
+
+count-use-requires : tie.Need-count-use-requires
+count-use-requires c κs =
+    let a = c .before .before .before .before .before .before .before .before .before .before .args in
+    let room = c .before .before .before .before .before .before .before .before .before .before .pre .0 in
+    let counted = c .before .before .before .before .before .before .before .before .before .before .pre .1 .0 in
+    let small = cursor-small (a .s) (a .work .now) (a .pairs .now) (a .imports .now) (a .c .a) (a .c .b) (a .c .new) room counted (c .before .before .before .before .before .before .before .before .before .before .pre .1 .1) in
+    (omega (arith, small, counted .importSize), omega (arith, few-imported (a .s) (a .work .now) (a .pairs .now) (a .imports .now) (a .c .a) (a .c .b) (a .c .new) room counted _ small))
+
+returns-2 : tie.Need-returns-2
+returns-2 c =
+    let a = c .before .before .before .before .before .before .before .before .before .before .before .before .before .args in
+    let room = c .before .before .before .before .before .before .before .before .before .before .before .before .before .pre .0 in
+    let counted = c .before .before .before .before .before .before .before .before .before .before .before .before .before .pre .1 .0 in
+    rw (c .before .before .count-use .ensures) (walks-import (a .s) (a .work .now) (a .pairs .now) (a .imports .now) (a .c .a) (a .c .b) (a .c .new) room counted (a .position) (c .before .before .before .before .before .before .before .before .before .before .before .before .before .pre .1 .1) _ refl (c .before .before .before .before .before .if1 .left))
+
+pub import-next-spec : {M : Type 1} → statement M
+import-next-spec =
+    tie.close
+    (tie.spec
+    (λ c. search needs)
+    (λ c. search needs)
+    (λ c. search needs)
+    mul-if1
+    shared-slice-read-if1
+    returns
+    (λ c. search needs)
+    (λ c. search needs)
+    (λ c. search needs)
+    (λ c. search needs)
+    (λ c. search needs)
+    (λ c. search needs)
+    slice-write-work-2
+    count-use-requires
+    (λ c. search needs)
+    (λ c. search needs)
+    (λ c. search needs)
+    returns-2)

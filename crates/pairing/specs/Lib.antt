@@ -1,0 +1,4 @@
+pub mod Actions
+pub mod Keys
+pub mod Plans
+pub mod Walks

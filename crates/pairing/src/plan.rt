@@ -1,0 +1,180 @@
+// A level's plan in the scratch slice. For each child of A a row of two cells, its number and its mate's number + 1, or 0; then the B-only
+// list, rows of two cells, element and position; behind it, during the walk, the numbers of B's children.
+use crate::action::Action;
+use tables::numbers::Element;
+ghost use mathlib.Core.Path.{_≡_};
+ghost use Prim.Native.Nat.{ℕ, _+_, _-_, _*_, _<_};
+ghost use lib.ListN.{length, getD, set};
+ghost use Rattle.merge_rules.specs.Pairing.{firstUsedTwice};
+ghost use Rattle.pairing.specs.Plans.{planUpTo, planIn, plannedIs, orUsedTwice, RowsIn, PlanIn};
+ghost use Rattle.pairing.specs.Walks.{secondChildren, StepIn, WorkRoom, Counted, Advances, Imports, Finishes};
+
+// So many rows of A and of the B-only list; refusal 8 with the B child; refusal 6.
+pub enum Planned {
+    Rows(usize, usize),
+    UsedTwice(Element),
+    Unmergeable,
+}
+
+// How many rows A has, and where the numbers of B's children start and end.
+pub struct Sides {
+    pub rows: usize,
+    pub start: usize,
+    pub end: usize,
+}
+
+// The cursor children's indices, and how many children are in the B-only list.
+pub struct Cursors {
+    pub a: usize,
+    pub b: usize,
+    pub new: usize,
+}
+
+// One use more of element e.
+fn count_use(uses: &mut [u16], e: usize)
+    requires { ⌜ e < length (now uses) ⌝ }
+    requires { ⌜ getD (now uses) e 0 < 65535 ⌝ }
+    ensures { λ _. ⌜ now (uses .exit) ≡ set (now (uses .entry)) e (getD (now (uses .entry)) e 0 + 1) ⌝ }
+{
+    uses[e] = uses[e] + 1;
+}
+
+// The child of A in row i is paired with e.
+fn pair_row(work: &mut [u64], pairs: &mut [u16], i: usize, e: usize)
+    requires { ⌜ 2 * i + 1 < length (now work) ⌝ }
+    requires { ⌜ e < length (now pairs) ⌝ }
+    requires { ⌜ getD (now pairs) e 0 < 65535 ⌝ }
+    ensures { λ _. ⌜ now (work .exit) ≡ set (now (work .entry)) (2 * i + 1) (e + 1) ⌝ }
+    ensures { λ _. ⌜ now (pairs .exit) ≡ set (now (pairs .entry)) e (getD (now (pairs .entry)) e 0 + 1) ⌝ }
+{
+    let at = 2 * i + 1;
+    work[at] = e as u64 + 1;
+    count_use(pairs, e);
+}
+
+// B-only: the cursor child of B at this position, unless it is already paired. Gives the length of the B-only list.
+fn import_next(
+    work: &mut [u64],
+    pairs: &[u16],
+    imports: &mut [u16],
+    s: Sides,
+    c: Cursors,
+    position: usize,
+) -> usize
+    requires { ⌜ WorkRoom s (now work) (c .a) (c .b) (c .new) ⌝ }
+    requires { ⌜ Counted (planUpTo (s .rows) (c .a) (c .new) (now work)) (now pairs) (now imports) ⌝ }
+    requires { ⌜ s .start + c .b < s .end ⌝ }
+    ensures { λ r. ⌜ Imports s position (now (work .entry)) c (now (work .exit)) (now (pairs .entry)) (now (imports .exit)) r ⌝ }
+{
+    let at = s.start + c.b;
+    let k = c.new;
+    let e = work[at] as usize;
+    if pairs[e] != 0 {
+        return k;
+    }
+    let row = 2 * (s.rows + k);
+    let second = row + 1;
+    work[row] = e as u64;
+    work[second] = position as u64;
+    count_use(imports, e);
+    k + 1
+}
+
+// One step of the walk.
+pub fn advance(
+    work: &mut [u64],
+    pairs: &mut [u16],
+    imports: &mut [u16],
+    s: Sides,
+    c: Cursors,
+    act: Action,
+) -> Cursors
+    requires { ⌜ WorkRoom s (now work) (c .a) (c .b) (c .new) ⌝ }
+    requires { ⌜ Counted (planUpTo (s .rows) (c .a) (c .new) (now work)) (now pairs) (now imports) ⌝ }
+    requires { ⌜ c .a < s .rows ⌝ }
+    requires { ⌜ StepIn s (c .b) act ⌝ }
+    ensures { λ r. ⌜ Advances s act (now (work .entry)) c (now (work .exit)) (now (pairs .exit)) (now (imports .exit)) r ⌝ }
+    ensures { λ r. ⌜ c .a + c .b < r .a + r .b ⌝ }
+{
+    let i = c.a;
+    match act {
+        Action::MergeEqual => {
+            let at = s.start + c.b;
+            let e = work[at] as usize;
+            pair_row(work, pairs, i, e);
+            Cursors {
+                a: i + 1,
+                b: c.b + 1,
+                new: c.new,
+            }
+        }
+        Action::MergeUnequal(m) => {
+            let e = m.0;
+            pair_row(work, pairs, i, e);
+            Cursors {
+                a: i + 1,
+                b: c.b,
+                new: c.new,
+            }
+        }
+        Action::AOnly => Cursors {
+            a: i + 1,
+            b: c.b,
+            new: c.new,
+        },
+        Action::BOnly => {
+            let new = import_next(work, pairs, imports, s, c, i);
+            Cursors {
+                a: i,
+                b: c.b + 1,
+                new,
+            }
+        }
+        Action::UnmergeableParent => c,
+    }
+}
+
+// Left-over B at this position. Gives the length of the B-only list.
+pub fn import_rest(
+    work: &mut [u64],
+    pairs: &[u16],
+    imports: &mut [u16],
+    s: Sides,
+    c: Cursors,
+    position: usize,
+) -> usize
+    requires { ⌜ WorkRoom s (now work) (c .a) (c .b) (c .new) ⌝ }
+    requires { ⌜ Counted (planUpTo (s .rows) (c .a) (c .new) (now work)) (now pairs) (now imports) ⌝ }
+    requires { ⌜ c .a ≡ s .rows ⌝ }
+    ensures { λ r. ⌜ Finishes s position (now (work .entry)) c (now (work .exit)) (now (pairs .entry)) (now (imports .exit)) r ⌝ }
+{
+    let a = c.a;
+    let n = s.end - s.start;
+    let mut b = c.b;
+    let mut new = c.new;
+    while b < n {
+        new = import_next(work, pairs, imports, s, Cursors { a, b, new }, position);
+        b += 1;
+    }
+    new
+}
+
+// The plan, or the first child of B that it uses twice.
+pub fn used_twice(work: &[u64], pairs: &[u16], imports: &[u16], s: Sides, new: usize) -> Planned
+    requires { ⌜ WorkRoom s (now work) (s .rows) (s .end - s .start) new ⌝ }
+    requires { ⌜ Counted (planIn (s .rows) new (now work)) (now pairs) (now imports) ⌝ }
+    ensures { λ r. ⌜ plannedIs r (now (work .entry)) ≡ orUsedTwice (planIn (s .rows) new (now (work .entry))) (firstUsedTwice (planIn (s .rows) new (now (work .entry))) (secondChildren s (now (work .entry)))) ⌝ }
+    ensures { λ r. ⌜ ((n : ℕ) → RowsIn n (now (work .entry)) (s .rows) new → PlanIn n r (now (work .entry))) ⌝ }
+{
+    let n = s.end - s.start;
+    let mut j: usize = 0;
+    while j < n {
+        let at = s.start + j;
+        let e = work[at] as usize;
+        if 1 < pairs[e] + imports[e] {
+            return Planned::UsedTwice(Element(e));
+        }
+        j += 1;
+    }
+    Planned::Rows(s.rows, new)
+}

@@ -1,0 +1,137 @@
+// Pairing: the walk over the children of both sides of a level.
+use crate::action::Action;
+use crate::action::action_of;
+use crate::children::copy_sides;
+use crate::plan::Cursors;
+use crate::plan::Planned;
+use crate::plan::Sides;
+use crate::plan::advance;
+use crate::plan::import_rest;
+use crate::plan::used_twice;
+use schema_calls::calls::splittable_in;
+use tables::elements::element_type;
+use tables::model::list_length;
+use tables::numbers::Element;
+use tables::numbers::TypeNumber;
+ghost use mathlib.Core.List.{[]};
+ghost use mathlib.Core.Path.{_≡_};
+ghost use Prim.Native.Nat.{_+_, _*_, _<_, _≤_};
+ghost use lib.ListN.{length};
+ghost use Rattle.tables.specs.Limits.{itemLimit, versionLimit};
+ghost use Rattle.tables.specs.Records.{listOf};
+ghost use Rattle.tables.specs.ElementsTable.{elementsOf};
+ghost use Rattle.tables.specs.ModelTable.{modelOf};
+ghost use Rattle.tables.specs.SchemaTable.{schemaOf};
+ghost use Rattle.state_test.specs.StateTest.{fixedIn};
+ghost use Rattle.merge_rules.specs.Pairing.{actionOf};
+ghost use Rattle.pairing.specs.Actions.{Acts};
+ghost use Rattle.pairing.specs.Plans.{plannedIs, PlanIn, planLevel, checkedPlan};
+ghost use Rattle.table_test.specs.Fits.{GoodFixed, ModelOver};
+ghost use Rattle.pairing.specs.Walks.{firstChildren, secondChildren, nextAction, walkOn, WorkRoom, Ranged};
+
+// What becomes of the cursor children; behind B's last child, A only.
+fn next_action(
+    deck: &[u8],
+    schema: &[u64],
+    elements: &[u64],
+    model: &[u64],
+    t: TypeNumber,
+    splittable: bool,
+    work: &[u64],
+    s: Sides,
+    c: Cursors,
+) -> Action
+    requires { ⌜ GoodFixed (now deck) (now schema) (now elements) ⌝ }
+    requires { ⌜ ModelOver (now elements) (now model) ⌝ }
+    requires { ⌜ t .0 < length (schemaOf (now schema) .types) ⌝ }
+    requires { ⌜ WorkRoom s (now work) (c .a) (c .b) (c .new) ⌝ }
+    requires { ⌜ Ranged (length (elementsOf (now elements) .names)) s (now work) (c .new) ⌝ }
+    requires { ⌜ c .a < s .rows ⌝ }
+    ensures { λ r. ⌜ Acts (length (elementsOf (now (elements .entry)) .names)) r (nextAction (actionOf (fixedIn (now (deck .entry)) (now (schema .entry)) (now (elements .entry))) (modelOf (now (model .entry))) (t .0) splittable (secondChildren s (now (work .entry)))) (firstChildren s (now (work .entry))) (secondChildren s (now (work .entry))) (c .a) (c .b)) ⌝ }
+{
+    let start = s.start;
+    let end = s.end;
+    let at = start + c.b;
+    if end <= at {
+        return Action::AOnly;
+    }
+    let row = 2 * c.a;
+    let a = Element(work[row] as usize);
+    let b = Element(work[at] as usize);
+    action_of(
+        deck,
+        schema,
+        elements,
+        model,
+        t,
+        splittable,
+        &work[start..end],
+        a,
+        b,
+    )
+}
+
+// The walk over the children of both sides; left-over B at the position `end`.
+fn walk(
+    deck: &[u8],
+    schema: &[u64],
+    elements: &[u64],
+    model: &[u64],
+    t: TypeNumber,
+    splittable: bool,
+    work: &mut [u64],
+    s: Sides,
+    end: usize,
+) -> Planned
+    requires { ⌜ GoodFixed (now deck) (now schema) (now elements) ⌝ }
+    requires { ⌜ ModelOver (now elements) (now model) ⌝ }
+    requires { ⌜ t .0 < length (schemaOf (now schema) .types) ⌝ }
+    requires { ⌜ WorkRoom s (now work) 0 0 0 ⌝ }
+    requires { ⌜ Ranged (length (elementsOf (now elements) .names)) s (now work) 0 ⌝ }
+    requires { ⌜ end ≤ itemLimit ⌝ }
+    ensures { λ r. ⌜ plannedIs r (now (work .exit)) ≡ checkedPlan (secondChildren s (now (work .entry))) (walkOn (actionOf (fixedIn (now (deck .entry)) (now (schema .entry)) (now (elements .entry))) (modelOf (now (model .entry))) (t .0) splittable (secondChildren s (now (work .entry)))) end 0 (firstChildren s (now (work .entry))) (secondChildren s (now (work .entry))) []) ⌝ }
+    ensures { λ r. ⌜ PlanIn (length (elementsOf (now (elements .entry)) .names)) r (now (work .exit)) ⌝ }
+{
+    let mut pairs = [0u16; 1024];
+    let mut imports = [0u16; 1024];
+    let mut c = Cursors { a: 0, b: 0, new: 0 };
+    while c.a < s.rows {
+        let act = next_action(deck, schema, elements, model, t, splittable, work, s, c);
+        if let Action::UnmergeableParent = act {
+            return Planned::Unmergeable;
+        }
+        c = advance(work, &mut pairs, &mut imports, s, c, act);
+    }
+    let new = import_rest(work, &pairs, &mut imports, s, c, end);
+    used_twice(work, &pairs, &imports, s, new)
+}
+
+// The plan of the level of a and b, in the scratch slice.
+pub fn plan_level(
+    deck: &[u8],
+    schema: &[u64],
+    elements: &[u64],
+    model: &[u64],
+    v: u64,
+    a: Element,
+    b: Element,
+    work: &mut [u64],
+) -> Planned
+    requires { ⌜ GoodFixed (now deck) (now schema) (now elements) ⌝ }
+    requires { ⌜ ModelOver (now elements) (now model) ⌝ }
+    requires { ⌜ a .0 < length (elementsOf (now elements) .names) ⌝ }
+    requires { ⌜ b .0 < length (elementsOf (now elements) .names) ⌝ }
+    requires { ⌜ v < versionLimit ⌝ }
+    requires { ⌜ 2 * length (listOf (modelOf (now model)) (a .0)) + 3 * length (listOf (modelOf (now model)) (b .0)) ≤ length (now work) ⌝ }
+    ensures { λ r. ⌜ plannedIs r (now (work .exit)) ≡ planLevel (fixedIn (now (deck .entry)) (now (schema .entry)) (now (elements .entry))) (modelOf (now (model .entry))) v (a .0) (b .0) ⌝ }
+    ensures { λ r. ⌜ PlanIn (length (elementsOf (now (elements .entry)) .names)) r (now (work .exit)) ⌝ }
+{
+    let s = copy_sides(model, a, b, work);
+    if s.end == s.start {
+        return Planned::Rows(s.rows, 0);
+    }
+    let t = element_type(elements, a);
+    let splittable = splittable_in(schema, t, v);
+    let end = list_length(model, a);
+    walk(deck, schema, elements, model, t, splittable, work, s, end)
+}
