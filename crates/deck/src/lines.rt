@@ -91,7 +91,7 @@ pub struct Span {
 }
 
 // The places of field i; of no bytes where there is none.
-fn places(f: Fields, i: usize) -> Span
+pub fn places(f: Fields, i: usize) -> Span
     requires { ⌜ f .count ≤ 8 ⌝ }
     ensures { λ r. ⌜ ((deck : List ℕ) → Placed deck f → SpanOf deck (field (fieldsOf deck f) i) r) ⌝ }
 {
@@ -106,7 +106,7 @@ fn places(f: Fields, i: usize) -> Span
 }
 
 // Field i as a number.
-fn number_at(deck: &[u8], f: Fields, i: usize, radix: u64, most: u64) -> Num
+pub fn number_at(deck: &[u8], f: Fields, i: usize, radix: u64, most: u64) -> Num
     requires { ⌜ Placed (now deck) f × (0 < radix) ⌝ }
     ensures { λ r. ⌜ numIs r ≡ number radix most (field (fieldsOf (now (deck .entry)) f) i) ⌝ }
 {

@@ -26,6 +26,7 @@ pub mod PassingTables
 pub mod PassingState
 pub mod Passing
 pub mod TableCalls
+pub mod Standing
 pub mod Digits
 pub mod LinesBack
 pub mod Rightmost

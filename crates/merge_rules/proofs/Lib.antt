@@ -1,4 +1,5 @@
 pub mod Stars
+pub mod CallRows
 pub mod Laws
 pub mod Withdrawal
 pub mod Passing

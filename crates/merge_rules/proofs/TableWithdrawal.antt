@@ -4,14 +4,15 @@ use mathlib.Core.Path.{_≡_}
 use Prim.Native.Nat.{ℕ}
 use Rattle.tables.specs.Records.{Fixed, State}
 use Rattle.deck.specs.Load.{loaded, load}
+use Rattle.merge_rules.specs.Standing.{StaysHolding}
 use Rattle.merge_rules.specs.TableWithdrawal.{TablesWithdrawnFrom, Demand3OnTables}
 use Rattle.merge_rules.specs.Withdrawal.{stateAfter}
 use Rattle.merge_rules.proofs.Laws.Loaded.{load-sound}
-use Rattle.merge_rules.proofs.Laws.TableCalls.{sound-holds, StaysHolding, loaded-tables, withdrawn-on}
+use Rattle.merge_rules.proofs.Laws.TableCalls.{sound-holds, loaded-tables, withdrawn-on}
 use Rattle.merge_rules.proofs.Withdrawal.{demand3, stays-sound}
 
 -- after a load, the tables of every state that calls reach pass and hold it
-stays-holding : (deck : List ℕ) (x : Fixed) (s : State) → load deck ≡ loaded x s → StaysHolding deck x s
+pub stays-holding : (deck : List ℕ) (x : Fixed) (s : State) → load deck ≡ loaded x s → StaysHolding deck x s
 stays-holding deck x s h =
     record { after = λ cs. sound-holds deck x (stateAfter x cs s) (load-sound deck x s h .fixed) (stays-sound deck x s h cs) }
 

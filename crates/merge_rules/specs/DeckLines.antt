@@ -1,13 +1,14 @@
 -- The trees of a loaded deck, printed, are the deck's own lines from its M line on. Assumes nothing.
-use mathlib.Core.Bool.{Bool, true, false, _&&_}
+use mathlib.Core.Bool.{Bool, true, false, not, _&&_}
 use mathlib.Core.List.{List, [], _∷_, _++_}
 use mathlib.Core.Option.{Option, none, some}
 use mathlib.Core.Path.{_≡_}
 use Prim.Native.Nat.{ℕ, suc}
 use lib.Dec.{leb}
 use Rattle.tables.specs.Bytes.{bytes}
+use Rattle.tables.specs.FileSets.{holds, loadedFiles}
 use Rattle.tables.specs.Limits.{depthLimit}
-use Rattle.tables.specs.Lists.{sameList}
+use Rattle.tables.specs.Lists.{keep, sameList}
 use Rattle.tables.specs.Records.{Tree, Model, Fixed, State}
 use Rattle.deck.specs.Deck.{Part, lines, Line, T, G, S, F, M, B, E, C, readLine}
 use Rattle.deck.specs.Load.{load, loaded}
@@ -15,7 +16,7 @@ use Rattle.merge_rules.specs.Program.{decimalOf, lineOf, elementLines, m
 
 -- ---- the trees printed
 
--- a waiting tree: `B,file` and its elements
+-- a tree: `B,file` and its elements
 unfoldable pub treeLines : Fixed → Model → Tree → List ℕ
 treeLines x m t = lineOf (bytes "B" ∷ decimalOf (t .file) ∷ []) ++ elementLines (suc depthLimit) x m (t .root)
 
@@ -23,9 +24,13 @@ unfoldable pub waitingLines : Fixed → Model → List Tree → List ℕ
 waitingLines x m [] = []
 waitingLines x m (t ∷ ts) = treeLines x m t ++ waitingLines x m ts
 
+-- a tree waits while its file is outside the root's set
+unfoldable pub waits : Model → Tree → Bool
+waits m t = not (holds (loadedFiles m) (t .file))
+
 -- `M` and the model, then the waiting trees in deck order
 unfoldable pub treesLines : Fixed → Model → List ℕ
-treesLines x m = lineOf (bytes "M" ∷ []) ++ (modelLines x m ++ waitingLines x m (x .elements .trees))
+treesLines x m = lineOf (bytes "M" ∷ []) ++ (modelLines x m ++ waitingLines x m (keep (waits m) (x .elements .trees)))
 
 -- ---- the deck's own lines
 

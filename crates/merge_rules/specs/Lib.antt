@@ -13,6 +13,9 @@ pub mod Stars
 pub mod Withdrawal
 pub mod TableWithdrawal
 pub mod Sound
+pub mod Standing
 pub mod DeckLines
+pub mod CallLists
+pub mod CallRows
 pub mod Depth
 pub mod Refused

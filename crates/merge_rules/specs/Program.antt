@@ -95,13 +95,16 @@ mergeLines x (t ∷ ts) s =
     answerLine (t .file) (r .answer) ++ mergeLines x ts (r .state)
 
 -- A refused deck prints `deck,number,line` only.
+unfoldable pub refusedDeck : ℕ → ℕ → List ℕ
+refusedDeck n line = lineOf (bytes "deck" ∷ decimalOf n ∷ decimalOf line ∷ [])
+
 unfoldable pub outputOf : Load → List ℕ
 outputOf (loaded x s) = mergeLines x (x .elements .trees) s
-outputOf (refusedAt n line) = lineOf (bytes "deck" ∷ decimalOf n ∷ decimalOf line ∷ [])
+outputOf (refusedAt n line) = refusedDeck n line
 
 -- names every rule of this file on one `unfolding` line
 unfoldable pub programRules : Unit {0}
-unfolding digitByte digitsBefore decimalOf hexadecimalOf orDash lineOf kindOfText valueOfText textLine elementLine itemLines elementLines modelLines answerLine mergeLines outputOf
+unfolding digitByte digitsBefore decimalOf hexadecimalOf orDash lineOf kindOfText valueOfText textLine elementLine itemLines elementLines modelLines answerLine mergeLines refusedDeck outputOf
 programRules = tt
 
 unfoldable pub output : List ℕ → List ℕ

@@ -1,6 +1,6 @@
 pub mod Buffers
+pub mod Parts
 pub mod Digits
 pub mod Lines
 pub mod Trees
 pub mod Tables
-pub mod Calls

@@ -1,42 +1,34 @@
 // Bytes and numbers behind what is written in a lent buffer.
-ghost use mathlib.Core.Bool.{true};
 ghost use mathlib.Core.List.{[], _∷_, _++_};
 ghost use mathlib.Core.Path.{_≡_};
 ghost use Prim.Native.Nat.{suc, _<_, _≤_};
 ghost use Rattle.merge_rules.specs.Program.{digitByte, digitsBefore};
 ghost use Rattle.printing.specs.Buffers.{bufferIs, Appends};
 
-// The count of bytes written from the buffer's start, and whether all of the text has fitted.
+// How many bytes of the text are still to be passed over, and the count of bytes written from the buffer's start.
 pub struct Written {
+    pub skip: usize,
     pub count: usize,
-    pub fits: bool,
 }
 
-impl Written {
-    pub fn none() -> Written
-        ensures { λ r. ⌜ r ≡ record { count = 0; fits = true } ⌝ }
-    {
-        Written {
-            count: 0,
-            fits: true,
-        }
-    }
-}
-
+// A byte behind what is written; it is left out where it is to be passed over, or where there is no room.
 pub fn append_byte(out: &mut [u8], w: Written, b: u8) -> Written
     ensures { λ r. ⌜ Appends (bufferIs w (now (out .entry))) (b ∷ []) (bufferIs r (now (out .exit))) ⌝ }
 {
     let at = w.count;
-    if out.len() <= at {
+    if w.skip != 0 {
         return Written {
+            skip: w.skip - 1,
             count: at,
-            fits: false,
         };
+    }
+    if out.len() <= at {
+        return w;
     }
     out[at] = b;
     Written {
+        skip: 0,
         count: at + 1,
-        fits: w.fits,
     }
 }
 

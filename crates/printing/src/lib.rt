@@ -1,5 +1,4 @@
 // The trees of the tables as bytes in a lent buffer.
 pub mod buffer;
 mod lines;
-pub mod print;
-mod trees;
+pub mod trees;

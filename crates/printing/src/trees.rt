@@ -12,17 +12,19 @@ use tables::limits::DEPTH_LIMIT;
 use tables::model::Item;
 use tables::model::item_at;
 use tables::model::list_length;
+use tables::model::set_of;
 use tables::numbers::Element;
 ghost use mathlib.Core.List.{List, [], _∷_};
 ghost use Prim.Native.Nat.{ℕ, suc, _<_};
 ghost use lib.ListN.{length, getD};
+ghost use Rattle.tables.specs.Lists.{keep};
 ghost use Rattle.tables.specs.Records.{Item, listOf, depthOf};
 ghost use Rattle.tables.specs.ElementsTable.{elementsOf, noTree};
 ghost use Rattle.tables.specs.ModelTable.{countOf, modelOf, itemIs};
 ghost use Rattle.state_test.specs.StateTest.{fixedIn};
 ghost use Rattle.merge_rules.specs.Program.{itemLines, elementLines, modelLines};
 ghost use Rattle.printing.specs.Buffers.{bufferIs, Appends};
-ghost use Rattle.merge_rules.specs.DeckLines.{treeLines, waitingLines, treesLines};
+ghost use Rattle.merge_rules.specs.DeckLines.{treeLines, waits, waitingLines, treesLines};
 ghost use Rattle.printing.specs.TreeLines.{Readable, ItemIn};
 
 // At most `left` levels of elements are printed.
@@ -99,15 +101,20 @@ fn append_item(
 // All levels that a tree has: the largest depth and the root.
 const LEVELS: u64 = DEPTH_LIMIT + 1;
 
-fn append_model(deck: &[u8], elements: &[u64], model: &[u64], out: &mut [u8], w: Written) -> Written
+pub fn append_model(
+    deck: &[u8],
+    elements: &[u64],
+    model: &[u64],
+    out: &mut [u8],
+    w: Written,
+) -> Written
     requires { ⌜ Readable (now deck) (now elements) (now model) ⌝ }
-    requires { ⌜ 0 < countOf (modelOf (now model)) ⌝ }
     ensures { λ r. ⌜ ((schema : List ℕ) → Appends (bufferIs w (now (out .entry))) (modelLines (fixedIn (now (deck .entry)) schema (now (elements .entry))) (modelOf (now (model .entry)))) (bufferIs r (now (out .exit)))) ⌝ }
 {
     append_element(deck, elements, model, out, w, 0, LEVELS)
 }
 
-// The waiting tree t.
+// The tree t.
 fn append_tree(
     deck: &[u8],
     elements: &[u64],
@@ -128,6 +135,7 @@ fn append_tree(
     append_element(deck, elements, model, out, l, e, LEVELS)
 }
 
+// The trees that wait: those whose files are not loaded.
 fn append_waiting(
     deck: &[u8],
     elements: &[u64],
@@ -136,12 +144,17 @@ fn append_waiting(
     w: Written,
 ) -> Written
     requires { ⌜ Readable (now deck) (now elements) (now model) ⌝ }
-    ensures { λ r. ⌜ ((schema : List ℕ) → Appends (bufferIs w (now (out .entry))) (waitingLines (fixedIn (now (deck .entry)) schema (now (elements .entry))) (modelOf (now (model .entry))) (elementsOf (now (elements .entry)) .trees)) (bufferIs r (now (out .exit)))) ⌝ }
+    ensures { λ r. ⌜ ((schema : List ℕ) → Appends (bufferIs w (now (out .entry))) (waitingLines (fixedIn (now (deck .entry)) schema (now (elements .entry))) (modelOf (now (model .entry))) (keep (waits (modelOf (now (model .entry)))) (elementsOf (now (elements .entry)) .trees))) (bufferIs r (now (out .exit)))) ⌝ }
 {
+    let loaded = set_of(model, Element(0));
     let n = tree_count(elements);
     let mut k = w;
     let mut t: usize = 0;
     while t < n {
+        if loaded.holds(tree_file(elements, t)) {
+            t += 1;
+            continue;
+        }
         k = append_tree(deck, elements, model, out, k, t);
         t += 1;
     }
@@ -156,7 +169,6 @@ pub fn append_trees(
     w: Written,
 ) -> Written
     requires { ⌜ Readable (now deck) (now elements) (now model) ⌝ }
-    requires { ⌜ 0 < countOf (modelOf (now model)) ⌝ }
     ensures { λ r. ⌜ ((schema : List ℕ) → Appends (bufferIs w (now (out .entry))) (treesLines (fixedIn (now (deck .entry)) schema (now (elements .entry))) (modelOf (now (model .entry)))) (bufferIs r (now (out .exit)))) ⌝ }
 {
     let k = append_bytes(out, w, b"M\n");

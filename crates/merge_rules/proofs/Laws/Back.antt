@@ -86,7 +86,8 @@ module _ (deck : List ℕ) where
     pub kind : kindM ≤ l .latest
     pub at : ((l .rootDue ≡ true) × RootDue l printed) ⊎ ((l .rootDue ≡ false) × TreesPrinted l latest printed)
 
-  complete-of : {l : Loading} → Stage deck l → l .modelSeen ≡ true → l .rootDue ≡ false → Complete deck l
+  -- the stage where no root is due
+  pub complete-of : {l : Loading} → Stage deck l → l .modelSeen ≡ true → l .rootDue ≡ false → Complete deck l
   unfolding putSchema openTree
   complete-of (schemaOnly k sc h) seen r = absurd (false≢true seen)
   complete-of (modelDue k sc) seen r = absurd (true≢false r)

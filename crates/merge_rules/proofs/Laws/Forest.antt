@@ -1,4 +1,5 @@
 -- The trees printed one behind the other, each under its heading; an item put below the last open element prints behind all. Assumes nothing.
+use mathlib.Core.Bool.{true}
 use mathlib.Core.List.{List, [], _∷_, _++_, map, map-append, append-nil, append-assoc, List·Memᴰ·head, List·Memᴰ·tail, Memᴰ·append-right}
 use mathlib.Core.Option.{Option, none, some}
 use mathlib.Core.Path.{_≡_, refl, sym, ap, _∙_}
@@ -8,9 +9,10 @@ use lib.ListN.{length, length-append}
 use Rattle.tables.specs.Bytes.{bytes}
 use Rattle.tables.specs.Limits.{depthLimit}
 use Rattle.tables.specs.Records.{Element, Tree, Item, child, Model, Fixed, root, depthOf, listOf}
-use Rattle.merge_rules.specs.DeckLines.{treeLines, waitingLines, treesLines}
+use Rattle.merge_rules.specs.DeckLines.{treeLines, waitingLines, waits, treesLines}
 use Rattle.merge_rules.specs.Program.{decimalOf, lineOf, itemLines, elementLines, modelLines}
 use Rattle.merge_rules.specs.Sound.{In, count}
+use Rattle.merge_rules.proofs.Laws.Lists.{keep-all}
 use Rattle.merge_rules.proofs.Laws.Loading.{Built}
 use Rattle.merge_rules.proofs.Laws.Rightmost.{Grown, ItemsInRange, lines-kept, Open, first, first-in, first-deep, open-range, open-same, NotOpen, not-open-lines, fuel, put-lines}
 
@@ -54,11 +56,12 @@ unfolding waitingLines treeLines forest
 waiting-forest x m [] = refl
 waiting-forest x m (t ∷ ts) = rw (waiting-forest x m ts)
 
--- what is printed of a state
-pub trees-forest : (x : Fixed) (m : Model) → treesLines x m ≡ forest x m (heads (x .elements .trees))
+-- what is printed of a state where all trees wait
+pub trees-forest : (x : Fixed) (m : Model) → ((t : Tree) → In t (x .elements .trees) → waits m t ≡ true)
+    → treesLines x m ≡ forest x m (heads (x .elements .trees))
 unfolding treesLines modelLines forest
-trees-forest x m =
-    rw (waiting-forest x m (x .elements .trees))
+trees-forest x m all =
+    rw (keep-all (waits m) (x .elements .trees) all, waiting-forest x m (x .elements .trees))
     (sym (append-assoc (lineOf (bytes "M" ∷ [])) (elementLines (suc depthLimit) x m root) (forest x m (map headB (x .elements .trees)))))
 
 -- a tree more

@@ -147,6 +147,12 @@ module _ {A : Type 0} (t : A → Bool) where
   pub firstOf-none : (l : List A) → firstOf t l ≡ none → (a : A) → In a l → t a ≡ false
   firstOf-none l h = anyOf-false l (sym (any-none t l h))
 
+  -- all are kept where each passes
+  pub keep-all : (l : List A) → ((a : A) → In a l → t a ≡ true) → keep t l ≡ l
+  unfolding keep
+  keep-all [] h = refl
+  keep-all (x ∷ l) h = rw (h x (List·Memᴰ·head refl), keep) (ap (λ (r : List A). x ∷ r) (keep-all l (λ a i. h a (List·Memᴰ·tail i))))
+
 -- lists that the test of equality passes
 pub same-bytes : (xs ys : List ℕ) → sameList xs ys ≡ true → xs ≡ ys
 unfolding sameList

@@ -23,12 +23,13 @@ use Rattle.deck.specs.Load.{form, Loading, nothing, kindT, kindG, kindS, kindF,
 use Rattle.deck.specs.Schema.{declaredType, declaredFiles, declaresFile, findSubElement, rowOfName}
 use Rattle.deck.proofs.Laws.Load.{owner-within, wait-new, room-left, total-append}
 use Rattle.state_test.specs.StateTest.{schemaValid}
+use Rattle.merge_rules.specs.DeckLines.{waits}
 use Rattle.merge_rules.specs.Sound.{count}
 use Rattle.merge_rules.proofs.Laws.Cases.{and-three, list-case, IfOk, isOk, given-ok, need-bind, given-bind, ok-bind, ok-case}
 use Rattle.merge_rules.proofs.Laws.Elements.{ElementsInRange, elements-nothing, elements-types, elements-element, elements-text, elements-tree}
 use Rattle.merge_rules.proofs.Laws.Invariant.{Inv}
 use Rattle.merge_rules.proofs.Laws.Lists.{anyOf-false, firstOf-some}
-use Rattle.merge_rules.proofs.Laws.Loading.{Built, NewElement, NewElementValid, new-depth, new-type, new-parent, trees-added, built-added, trees-more, built-put, built-child, built-inv, built-nothing}
+use Rattle.merge_rules.proofs.Laws.Loading.{Built, NewElement, NewElementValid, new-depth, new-type, new-parent, root-set, waits-added, trees-added, built-added, trees-more, built-put, built-child, built-inv, built-nothing}
 use Rattle.merge_rules.proofs.Laws.Parse.{TypeInRange, GroupInRange, RowInRange, FileInRange, PartIn, parts-in, LineInRange, read-ok, SchemaInRange, type-added, group-added, row-added, file-added, schema-nothing}
 use Rattle.merge_rules.proofs.Laws.SchemaRows.{SchemaValidUpTo, valid-nothing, valid-later, valid-type, valid-group, valid-row, valid-file, valid-all}
 
@@ -323,13 +324,13 @@ module _ (deck : List ℕ) where
   -- a waiting tree's root
   tree-complete : (l : Loading) → Complete l → (f : FileNumber) → mayWait l f ≡ true → (s : FileSet) → eqb s noSet ≡ true
       → length (l .elements .names) < elementLimit → Complete (rootAdded (treeOpened l f) s)
-  unfolding openTree putContent nextElement addElement addTree addToModel mayWait
+  unfolding openTree putContent nextElement addElement addTree mayWait waits
   tree-complete l g f may s empty few =
       let x : Fixed = fixedOf l in
       let t : Tree = record { file = f; root = count x } in
       let trees : List Tree = l .elements .trees ++ (t ∷ []) in
       let b = g .built in
-      let (known, _, _) = and-three (declaresFile (l .schema) f) _ _ may in
+      let (known, outside, _) = and-three (declaresFile (l .schema) f) _ _ may in
       record {
         kind = lit≤ tt;
         ready = refl;
@@ -343,11 +344,11 @@ module _ (deck : List ℕ) where
               type = new-type b (newRoot s) trees;
               declared = known;
             })
-            (new-parent b (newRoot s) trees)
+            (new-parent b (newRoot s) trees) (waits-added b (newRoot s) trees t (g .some) outside)
             (λ u h. eqb-false (u .file) f (anyOf-false (λ (v : Tree). eqb (v .file) f) (l .elements .trees) (wait-new l f may) u h))
             (λ u h e. omega (arith, b .trees .all .valid u h .inRange)));
         some = rw length-append (omega arith);
-        rootSet = rw (List·getD-append (l .model .sets) (s ∷ []) 0 root (omega (arith, g .some, b .kept .sets))) (g .rootSet);
+        rootSet = rw (root-set b (newRoot s) trees (g .some)) (g .rootSet);
         fewTexts = rw (total-add (l .model) none s) (g .fewTexts);
       }
 

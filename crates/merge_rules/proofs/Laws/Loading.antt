@@ -13,20 +13,22 @@ use Rattle.tables.specs.FileSets.{partOf}
 use Rattle.tables.specs.Limits.{elementLimit, depthLimit, itemLimit}
 use Rattle.tables.specs.Lists.{insertAt, sum}
 use Rattle.tables.specs.Records.{Element, Name, TypeNumber, FileSet, SubElement, Schema, Tree, Text, Item, child, text, Model, Fixed, root, nameOf, typeOf, depthOf, parentOf, setOf, listOf, addToModel, insertItem, putList, contentItems}
-use Rattle.tables.proofs.Laws.Model.{parent-add, parent-add-new, total-add}
+use Rattle.tables.proofs.Laws.Model.{parent-add, parent-add-new, set-add, total-add}
 use Rattle.deck.specs.Load.{append, nothing}
 use Rattle.deck.specs.Schema.{declaredFiles, rowOfName}
 use Rattle.deck.proofs.Laws.Load.{append-added}
+use Rattle.merge_rules.specs.DeckLines.{waits}
 use Rattle.merge_rules.specs.Pairing.{children}
 use Rattle.merge_rules.specs.Sound.{In, count, Once, once-nil, ChildValid, ElementsValid, TreeValid, TreesValid, ItemInRange, Kept}
 use Rattle.merge_rules.proofs.Laws.Invariant.{Owns, Inv}
 use Rattle.merge_rules.proofs.Laws.Lists.{in-snoc, each-nil, each-snoc, getD-snoc, getD-snoc-default, getElem?-front, once-insert, children-insert-text}
 use Rattle.merge_rules.proofs.Laws.Models.{insert-list, insert-in, insert-items}
 
--- trees whose roots have no parent
+-- trees that wait, their roots without parents
 pub record TreesBuilt (x : Fixed) (m : Model) (trees : List Tree) : Type 0 where
   pub all : TreesValid x trees
   pub top : (t : Tree) → In t trees → parentOf m (t .root) ≡ none
+  pub waiting : (t : Tree) → In t trees → waits m t ≡ true
 
 -- the elements and the model so far; above: the open elements, by depth
 pub record Built (x : Fixed) (m : Model) (above : List Element) : Type 0 where
@@ -141,6 +143,15 @@ module _ {x : Fixed} {m : Model} {above : List Element} (b : Built x m above) (n
   pub new-parent : parentOf m′ (count x) ≡ new .parent
   new-parent = ap (parentOf m′) (sym (b .kept .parents)) ∙ parent-add-new m (new .parent) (new .set)
 
+  -- the model's root keeps its set
+  pub root-set : 0 < count x → setOf m′ root ≡ setOf m root
+  root-set h = set-add m (new .parent) (new .set) root (omega (arith, b .kept .sets))
+
+  -- what waits still does
+  pub waits-added : (u : Tree) → 0 < count x → waits m u ≡ true → waits m′ u ≡ true
+  unfolding waits
+  waits-added u h w = rw (root-set h) w
+
   -- the trees so far fit with it
   pub trees-added : TreesBuilt x′ m′ (x .elements .trees)
   trees-added =
@@ -148,6 +159,7 @@ module _ {x : Fixed} {m : Model} {above : List Element} (b : Built x m above) (n
       record {
         all = record { valid = λ u h. tree-added u (old .valid u h); oneFile = old .oneFile; oneRoot = old .oneRoot };
         top = λ u h. kept-parent (u .root) (old .valid u h .inRange) ∙ b .trees .top u h;
+        waiting = λ u h. waits-added u (omega (arith, old .valid u h .inRange)) (b .trees .waiting u h);
       }
 
   module _ (j : NewElementValid x new) (few : count x < elementLimit) (low : new .depth ≤ depthLimit)
@@ -236,9 +248,9 @@ module _ {x : Fixed} {m : Model} {above : List Element} (b : Built x m above) (n
 -- ---- one more tree, its root the newest element
 
 -- the trees fit with one more, of its own file and root
-pub trees-more : {x : Fixed} {m : Model} {trees : List Tree} → TreesBuilt x m trees → (t : Tree) → TreeValid x t → parentOf m (t .root) ≡ none
+pub trees-more : {x : Fixed} {m : Model} {trees : List Tree} → TreesBuilt x m trees → (t : Tree) → TreeValid x t → parentOf m (t .root) ≡ none → waits m t ≡ true
     → ((u : Tree) → In u trees → u .file ≡ t .file → ⊥) → ((u : Tree) → In u trees → u .root ≡ t .root → ⊥) → TreesBuilt x m (trees ++ (t ∷ []))
-trees-more {x} {m} {trees} b t f top file own =
+trees-more {x} {m} {trees} b t f top wait file own =
     record {
       all =
           record {
@@ -247,6 +259,7 @@ trees-more {x} {m} {trees} b t f top file own =
             oneRoot = one Tree.root (b .all .oneRoot) own;
           };
       top = each-snoc (λ (u : Tree). parentOf m (u .root) ≡ none) trees top (b .top);
+      waiting = each-snoc (λ (u : Tree). waits m u ≡ true) trees wait (b .waiting);
     }
   where
     one : (k : Tree → ℕ) → ((u v : Tree) → In u trees → In v trees → k u ≡ k v → u ≡ v) → ((u : Tree) → In u trees → k u ≡ k t → ⊥)
@@ -328,7 +341,7 @@ module _ {x : Fixed} {m : Model} {above : List Element} (b : Built x m above) (t
 
     -- all holds with the item
     pub built-put : Built (withTexts x texts) (append m p i) above
-    unfolding append insertItem putList
+    unfolding append insertItem putList waits
     built-put =
         record {
           kept = kept-put;
@@ -341,6 +354,7 @@ module _ {x : Fixed} {m : Model} {above : List Element} (b : Built x m above) (t
               record {
                 all = record { valid = λ t h. tree-more t (old .valid t h); oneFile = old .oneFile; oneRoot = old .oneRoot };
                 top = b .trees .top;
+                waiting = b .trees .waiting;
               };
         }
 
@@ -417,5 +431,6 @@ built-nothing deck sc =
                   oneRoot = λ t u h. absurd (List·Memᴰ·not-nil h);
                 };
             top = each-nil _;
+            waiting = each-nil _;
           };
     }

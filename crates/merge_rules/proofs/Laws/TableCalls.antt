@@ -22,7 +22,8 @@ use Rattle.load.specs.declared.load.Answer.the-variants.{Loaded}
 use Rattle.state_test.specs.StateTest.{fixedIn, stateIn}
 use Rattle.merge_rules.specs.Book.{Call, callMerge, callRollback, callRange, ofRollback, call}
 use Rattle.merge_rules.specs.Calls.{merge, range, RollbackAnswer, rollback}
-use Rattle.merge_rules.specs.Sound.{Sound, Passes}
+use Rattle.merge_rules.specs.Sound.{Sound}
+use Rattle.merge_rules.specs.Standing.{Holds, StaysHolding}
 use Rattle.merge_rules.specs.TableCalls.{answered, encodedResult, mergeCall, rollbackCall, rangeCall}
 use Rattle.merge_rules.specs.TableWithdrawal.{TablesCalled, answerAs, callOn, tablesAfter, CallAnswered, historyOn, answersOf, isBadTables, anyBadTables, TablesWithdrawn, TablesWithdrawnFrom}
 use Rattle.merge_rules.specs.Withdrawal.{Answered, stateAfter, history, bookAfter, Withdrawn, WithdrawnFrom}
@@ -31,12 +32,6 @@ use Rattle.merge_rules.proofs.Laws.Passing.{sound-passes}
 use Rattle.merge_rules.proofs.Laws.PassingTables.{schema-in, elements-in, model-in}
 
 -- ---- what the tables say
-
--- the tables of the records pass, and hold the records
-pub record Holds (deck : List ℕ) (x : Fixed) (s : State) : Type 0 where
-  pub passes : Passes deck x s
-  pub fixed : fixedIn deck (encodeSchema (x .schema)) (encodeElements (x .elements)) ≡ x
-  pub state : stateIn (encodeModel (s .model)) (encodeLog (s .log)) ≡ s
 
 -- those of a sound state do
 pub sound-holds : (deck : List ℕ) (x : Fixed) (s : State) → FixedInRange deck x → Sound x s → Holds deck x s
@@ -105,10 +100,6 @@ unfolding stateAfter
 stateAfter-append x [] ds s = refl
 stateAfter-append x (c ∷ cs) ds s = stateAfter-append x cs ds (call x c s .state)
 
--- the tables of every state that calls reach pass, and hold it
-pub record StaysHolding (deck : List ℕ) (x : Fixed) (s : State) : Type 0 where
-  pub after : (cs : List Call) → Holds deck x (stateAfter x cs s)
-
 -- an answer of the rules, as a call gives it
 abbrev pub fromRules : Answered → CallAnswered
 fromRules d = record { asked = d .asked; answer = answered (d .answer) }
@@ -121,7 +112,8 @@ module _ {deck : List ℕ} {x : Fixed} where
   unfolding stateAfter
   first-call h c = call-encoded (h .after []) c
 
-  later-calls : {s : State} → StaysHolding deck x s → (c : Call) → StaysHolding deck x (call x c s .state)
+  -- the state behind a call stays so
+  pub later-calls : {s : State} → StaysHolding deck x s → (c : Call) → StaysHolding deck x (call x c s .state)
   unfolding stateAfter
   later-calls h c = stays-after h (c ∷ [])
 

@@ -20,7 +20,7 @@ use Rattle.deck.specs.Deck.{Part, parts, lines, Line, T, G, S, F, M, B, E, C, r
 use Rattle.deck.specs.Load.{form, Loading, nothing, kindT, kindG, kindS, kindF, kindM, kindB, putSchema, openTree, putContent, loadT, loadG, loadS, loadF, loadM, loadB, loadE, loadC, loadRoot, loadChild, loadLine, _>>=_ as bindRes, given, Load, loaded, refusedAt, finish, loadLines, load}
 use Rattle.merge_rules.specs.DeckLines.{treesLines, joinedLines, treePart, follows, inOrder}
 use Rattle.merge_rules.specs.Program.{lineOf}
-use Rattle.merge_rules.proofs.Laws.Back.{PrintedSoFar, model-due, line-step}
+use Rattle.merge_rules.proofs.Laws.Back.{PrintedSoFar, complete-of, model-due, line-step}
 use Rattle.merge_rules.proofs.Laws.Cases.{list-case, some-value, IfOk, isOk, need-bind, given-bind, ok-case, ok-both}
 use Rattle.merge_rules.proofs.Laws.Forest.{forest, trees-forest}
 use Rattle.merge_rules.proofs.Laws.LinesBack.{At, parts-placed, read-back, M-read}
@@ -65,14 +65,19 @@ module _ (deck : List ℕ) where
 
   -- ---- from the M line on
 
-  finish-prints : (n : ℕ) {l : Loading} (latest : Line) (printed : List ℕ) → PrintedSoFar deck l latest printed → LoadPrints printed (finish deck n l)
+  finish-prints : (n : ℕ) {l : Loading} (latest : Line) (printed : List ℕ) → LoadingSound deck l → PrintedSoFar deck l latest printed
+      → LoadPrints printed (finish deck n l)
   unfolding finish
-  finish-prints n {l} latest printed ph =
+  finish-prints n {l} latest printed g ph =
       bool-case (LoadPrints printed) (l .modelSeen && not (l .rootDue))
       (λ h.
       let ready : l .rootDue ≡ false = not-true _ (and-eq-true-iff (l .modelSeen) _ .0 h .1) in
       ⊎-elim (λ k. absurd (true≢false (sym (k .0) ∙ ready)))
-      (λ k. isLoaded (trees-forest (fixedOf deck l) (l .model) ∙ ap (forest (fixedOf deck l) (l .model)) (k .1 .trees) ∙ sym (k .1 .is))) (ph .at))
+      (λ k.
+      isLoaded
+      (trees-forest (fixedOf deck l) (l .model) (complete-of deck (g .stage) (ph .seen) ready .built .trees .waiting)
+      ∙ ap (forest (fixedOf deck l) (l .model)) (k .1 .trees) ∙ sym (k .1 .is)))
+      (ph .at))
       (λ _. isRefusedAt)
 
   last-part : (n : ℕ) (l : Loading) (printed : List ℕ) → LoadPrints printed (finish deck n l) → (bs : List ℕ)
@@ -100,7 +105,7 @@ module _ (deck : List ℕ) where
       → PrintedSoFar deck l latest printed → follows (some latest) (readLine p) ≡ true → inOrder (p ∷ ps) ≡ true
       → LoadPrints (printed ++ joinedLines (p ∷ ps)) (loadLines deck n (p ∷ ps) l)
   unfolding loadLines joinedLines inOrder
-  lines-print n p [] {l} latest printed i g ph f o = last-part n l printed (finish-prints n latest printed ph) (p .bytes)
+  lines-print n p [] {l} latest printed i g ph f o = last-part n l printed (finish-prints n latest printed g ph) (p .bytes)
   lines-print n p (q ∷ ps) latest printed i g ph f o =
       let (next, rest) = and-eq-true-iff (follows (readLine p) (readLine q)) (inOrder (q ∷ ps)) .0 o in
       ok-case (LoadPrints (printed ++ ((p .bytes ++ bytes "\n") ++ joinedLines (q ∷ ps)))) (step p latest printed (i .0) g ph f)

@@ -1,47 +1,63 @@
 -- Laws of a text in a lent buffer: a byte, one text behind another, and a text in several turns. Assumes nothing.
-use mathlib.Core.Bool.{Bool, false}
 use mathlib.Core.List.{List, [], _∷_, _++_}
 use mathlib.Core.Path.{_≡_, refl, sym, ap, _∙_}
 use Prim.Native.Nat.{ℕ, zero, suc, _+_, _-_, _≤_, _<_, min}
-use native.Mathlib.Nat.{add-zero, min-zero, zero-min, suc-min-suc}
+use native.Mathlib.Nat.{add-zero, sub-zero, suc-sub-suc, suc-min-suc}
 use native.Mathlib.Numerals.{add-one}
 use native.Mathlib.Omega.{arith}
-use lib.Dec.{leb, leb·zero, leb·suc-zero, leb·suc-suc}
 use lib.ListN.{length, getD, take, drop, set, length-set, drop-of-length-le}
-use lib.Seq.{paste, paste-zero, length-paste, take-suc-set, drop-set-lt, append-snoc, drop-cons}
+use lib.Seq.{paste-zero, length-paste, take-suc-set, drop-set-lt, drop-nil, append-snoc, drop-cons}
 use Rattle.printing.specs.Buffers.{Buffer, appended, Appends}
 
-equal : {xs ys : List ℕ} {m n : ℕ} {f g : Bool} → xs ≡ ys → m ≡ n → f ≡ g
-    → _≡_ {A = Buffer} (record { held = xs; count = m; fits = f }) (record { held = ys; count = n; fits = g })
-equal p q r = λ i. record { held = p i; count = q i; fits = r i }
+equal : {xs ys : List ℕ} {j k m n : ℕ} → xs ≡ ys → j ≡ k → m ≡ n
+    → _≡_ {A = Buffer} (record { held = xs; skip = j; count = m }) (record { held = ys; skip = k; count = n })
+equal p q r = λ i. record { held = p i; skip = q i; count = r i }
 
--- ---- nothing; a byte before a text
+-- ---- a text of which nothing is written
+
+-- the bytes of the text are passed over or left out
+abbrev without : Buffer → List ℕ → Buffer
+without b t = record { held = b .held; skip = b .skip - length t; count = b .count }
+
+unwritten : (b : Buffer) (t : List ℕ) → min (length (drop (b .skip) t)) (length (b .held) - b .count) ≡ 0 → without b t ≡ appended b t
+unfolding appended
+unwritten b t e = rw e (equal (paste-zero (b .held) (b .count) (drop (b .skip) t)) refl (sym (add-zero (b .count))))
 
 appended-nothing : (b : Buffer) → b ≡ appended b []
-unfolding appended
 appended-nothing b =
-    let room = length (b .held) - b .count in
-    let n : min zero room ≡ zero = zero-min room in
-    rw (n, leb·zero room) (equal (paste-zero (b .held) (b .count) []) (sym (add-zero (b .count))) refl)
+    equal refl (sym (sub-zero (b .skip))) refl ∙ unwritten b [] (rw (drop-nil {A = ℕ} (b .skip)) (omega arith))
 
--- the byte is left out
-abbrev cut : Buffer → Buffer
-cut b = record { held = b .held; count = b .count; fits = false }
+full : (b : Buffer) (t : List ℕ) → length (b .held) ≤ b .count → without b t ≡ appended b t
+full b t h = unwritten b t (omega arith)
+
+-- a full buffer is unchanged
+pub full-stays : (b : Buffer) (text : List ℕ) → length (b .held) ≤ b .count → (appended b text .held ≡ b .held) × (appended b text .count ≡ b .count)
+full-stays b text h = let e = full b text h in (sym (ap (λ (a : Buffer). a .held) e), sym (ap (λ (a : Buffer). a .count) e))
+
+-- ---- a byte before a text
+
+-- the byte is passed over
+abbrev past : Buffer → Buffer
+past b = record { held = b .held; skip = b .skip - 1; count = b .count }
 
 -- the byte is written
 abbrev withByte : Buffer → ℕ → Buffer
-withByte b x = record { held = set (b .held) (b .count) x; count = b .count + 1; fits = b .fits }
+withByte b x = record { held = set (b .held) (b .count) x; skip = 0; count = b .count + 1 }
 
-module _ (b : Buffer) (x : ℕ) where
-  full : (t : List ℕ) → length (b .held) ≤ b .count → cut b ≡ appended b (x ∷ t)
+module _ (b : Buffer) (x : ℕ) (t : List ℕ) where
+  byte-past : (b .skip ≡ 0 → ⊥) → appended (past b) t ≡ appended b (x ∷ t)
   unfolding appended
-  full t h =
-      let e : length (b .held) - b .count ≡ 0 = omega arith in
-      rw (e, min-zero (suc (length t)), leb·suc-zero (length t)) (equal (paste-zero (b .held) (b .count) (x ∷ t)) (sym (add-zero (b .count))) refl)
+  byte-past h =
+      let e : suc (b .skip - 1) ≡ b .skip = omega arith in
+      equal refl (sym (suc-sub-suc (b .skip - 1) (length t))) refl
+      ∙ ap (λ (k : ℕ). appended (record { held = b .held; skip = k; count = b .count }) (x ∷ t)) e
 
-  byte-first : (t : List ℕ) → b .count < length (b .held) → appended (withByte b x) t ≡ appended b (x ∷ t)
+  byte-out : b .skip ≡ 0 → length (b .held) ≤ b .count → appended b t ≡ appended b (x ∷ t)
+  byte-out z h = sym (full b t h) ∙ equal refl (omega arith) refl ∙ full b (x ∷ t) h
+
+  byte-first : b .skip ≡ 0 → b .count < length (b .held) → appended (withByte b x) t ≡ appended b (x ∷ t)
   unfolding appended
-  byte-first t h =
+  byte-first z h =
       let xs = b .held in
       let at = b .count in
       let r = length xs - suc at in
@@ -52,20 +68,18 @@ module _ (b : Buffer) (x : ℕ) where
       rw (take-suc-set xs at x h, drop-set-lt (suc at + m) xs at x (omega arith), k)
       (ap (λ (l : List ℕ). l ++ drop (at + suc m) xs) (append-snoc (take at xs) x (take m t)))
       in
-      rw (add-one at, length-set xs at x, e, suc-min-suc (length t) r, leb·suc-suc (length t) r) (equal g k refl)
-
--- a full buffer is unchanged
-stays : (b : Buffer) (t : List ℕ) → length (b .held) ≤ b .count → appended (cut b) t ≡ cut b
-stays b [] h = sym (appended-nothing (cut b))
-stays b (y ∷ t) h = sym (full (cut b) y t h)
+      rw (z, add-one at, length-set xs at x, e, suc-min-suc (length t) r) (equal g (omega arith) k)
 
 -- what the code does with a byte
 module _ (b : Buffer) (x : ℕ) where
-  pub byte-left-out : length (b .held) ≤ b .count → Appends b (x ∷ []) (cut b)
-  byte-left-out h = record { is = full b x [] h }
+  pub byte-passed : (b .skip ≡ 0 → ⊥) → Appends b (x ∷ []) (past b)
+  byte-passed h = record { is = appended-nothing (past b) ∙ byte-past b x [] h }
 
-  pub byte-written : b .count < length (b .held) → Appends b (x ∷ []) (withByte b x)
-  byte-written h = record { is = appended-nothing (withByte b x) ∙ byte-first b x [] h }
+  pub byte-left-out : b .skip ≡ 0 → length (b .held) ≤ b .count → Appends b (x ∷ []) b
+  byte-left-out z h = record { is = appended-nothing b ∙ byte-out b x [] z h }
+
+  pub byte-written : b .skip ≡ 0 → b .count < length (b .held) → Appends b (x ∷ []) (withByte b x)
+  byte-written z h = record { is = appended-nothing (withByte b x) ∙ byte-first b x [] z h }
 
 -- ---- the length
 
@@ -73,19 +87,22 @@ appended-length : (b : Buffer) (t : List ℕ) → length (appended b t .held) �
 unfolding appended
 appended-length b t = by-room (length (b .held) - b .count) refl
   where
-    by-room : (r : ℕ) → length (b .held) - b .count ≡ r → length (paste (b .held) (b .count) t (min (length t) (length (b .held) - b .count))) ≡ length (b .held)
-    by-room zero e = rw (e, min-zero (length t)) (sym (ap length (paste-zero (b .held) (b .count) t)))
-    by-room (suc r) e = length-paste (b .held) (b .count) t (min (length t) (length (b .held) - b .count)) (omega arith) (omega arith)
+    by-room : (r : ℕ) → length (b .held) - b .count ≡ r → length (appended b t .held) ≡ length (b .held)
+    by-room zero e = ap length (full-stays b t (omega arith) .0)
+    by-room (suc r) e =
+        let rest = drop (b .skip) t in
+        length-paste (b .held) (b .count) rest (min (length rest) (length (b .held) - b .count)) (omega arith) (omega arith)
 
 -- ---- one text behind another
 
 -- the buffer behind the first byte of a text
 first : (b : Buffer) (x : ℕ) → (a : Buffer) × ((t : List ℕ) → appended a t ≡ appended b (x ∷ t))
-first b x = by-room (length (b .held) - b .count) refl
+first b x = by-place (b .skip) (length (b .held) - b .count) refl refl
   where
-    by-room : (r : ℕ) → length (b .held) - b .count ≡ r → (a : Buffer) × ((t : List ℕ) → appended a t ≡ appended b (x ∷ t))
-    by-room zero e = (cut b, λ t. stays b t (omega arith) ∙ full b x t (omega arith))
-    by-room (suc r) e = (withByte b x, λ t. byte-first b x t (omega arith))
+    by-place : (k r : ℕ) → b .skip ≡ k → length (b .held) - b .count ≡ r → (a : Buffer) × ((t : List ℕ) → appended a t ≡ appended b (x ∷ t))
+    by-place (suc k) r z e = (past b, λ t. byte-past b x t (λ n. omega arith))
+    by-place zero zero z e = (b, λ t. byte-out b x t z (omega arith))
+    by-place zero (suc r) z e = (withByte b x, λ t. byte-first b x t z (omega arith))
 
 appended-both : (b : Buffer) (s t : List ℕ) → appended (appended b s) t ≡ appended b (s ++ t)
 appended-both b [] t = ap (λ (a : Buffer). appended a t) (sym (appended-nothing b))

@@ -13,10 +13,13 @@ use Rattle.tables.specs.ModelTable.{flat, startOf, countOf, modelOf}
 use Rattle.table_test.specs.ElementsTest.{TextIn, TreeIn}
 use Rattle.table_test.specs.ModelTest.{itemInRange, TestedModel}
 use Rattle.table_test.specs.TablesTest.{TestedTables}
+use Rattle.state_test.specs.StateTest.{lentTablesPass}
 use Rattle.tables.proofs.Laws.Cells.{each-getD}
 use Rattle.tables.proofs.Laws.Lists.{getD-flat}
 use Rattle.tables.proofs.Laws.ModelTable.{start-room, total-flat, listed-below}
 use Rattle.tables.proofs.Laws.Scans.{all-at}
+use Rattle.state_test.proofs.Laws.Passed.{root-there}
+use Rattle.state_test.proofs.Laws.States.{passed-tables}
 use Rattle.printing.specs.TreeLines.{Readable}
 
 -- every item of a list is in the range of what it names
@@ -30,15 +33,16 @@ item-in-range texts xs e i t h =
     ∙ all-at (itemInRange (countOf m) texts) (flat (m .lists)) (startOf (m .lists) e + i) (child 0) (t .items) k
 
 module _ (deck schema es m log : List ℕ) where
-  pub readable : TestedTables (length deck) schema es m log → Readable deck es m
+  pub readable : 0 < countOf (modelOf m) → TestedTables (length deck) schema es m log → Readable deck es m
   unfolding itemInRange
-  readable t =
+  readable some t =
       let g = t .elementsTested .good in
       let same = t .same in
       let depths = g .sized .sameDepths in
       record {
         elementsGood = g;
         modelGood = t .modelTested .good;
+        some = some;
         same = t .same;
         low = λ e h. each-getD (λ (d : ℕ). d ≤ depthLimit) (elementsOf es .depths) e 0 (t .elementsTested .depths) (omega arith);
         strings = λ i h. each-getD (TextIn (length deck)) (elementsOf es .texts) i (enumNumber 0) (t .elementsTested .texts) h;
@@ -47,3 +51,6 @@ module _ (deck schema es m log : List ℕ) where
             ltb-true k texts (sym (ap (itemInRange (countOf (modelOf m)) texts) f) ∙ item-in-range texts m e i (t .modelTested) h);
         roots = λ i h. rw same (each-getD (TreeIn (length (elementsOf es .names))) (elementsOf es .trees) i noTree (t .elementsTested .trees) h .1);
       }
+
+  pub readable-passed : lentTablesPass deck schema es m log ≡ true → Readable deck es m
+  readable-passed p = readable (root-there deck schema es m log p) (passed-tables deck schema es m log p)

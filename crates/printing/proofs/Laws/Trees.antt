@@ -1,10 +1,13 @@
 -- Laws of the lines of an element, of its items, and of the trees. Assumes nothing.
+use mathlib.Core.Bool.{Bool, true, false, not}
 use mathlib.Core.List.{List, [], _∷_, _++_, append-nil}
 use mathlib.Core.Path.{_≡_, refl, sym, ap, subst}
 use Prim.Native.Nat.{ℕ, suc, _+_, _-_, _≤_, _<_}
 use native.Mathlib.Omega.{arith}
 use lib.ListN.{length, getD, drop}
 use Rattle.tables.specs.Bytes.{bytes}
+use Rattle.tables.specs.FileSets.{holds, loadedFiles}
+use Rattle.tables.specs.Lists.{keep}
 use Rattle.tables.specs.Records.{Tree, Item, child, text, Model, Fixed, depthOf, textOf, listOf}
 use Rattle.tables.specs.ElementsTable.{elementsOf, noTree}
 use Rattle.tables.specs.ModelTable.{countOf, modelOf, itemIs, ItemBelow}
@@ -14,7 +17,7 @@ use Rattle.tables.specs.declared.model.Item.the-variants.{Child, Text}
 use Rattle.merge_rules.specs.Program.{digitsBefore, decimalOf, lineOf, textLine, elementLine, itemLines, elementLines, modelLines}
 use Rattle.tables.proofs.Laws.ModelTable.{item-below}
 use Rattle.printing.specs.Buffers.{Buffer, Appends}
-use Rattle.merge_rules.specs.DeckLines.{treeLines, waitingLines, treesLines}
+use Rattle.merge_rules.specs.DeckLines.{treeLines, waits, waitingLines, treesLines}
 use Rattle.printing.specs.TreeLines.{Readable, ItemIn}
 use Rattle.printing.proofs.Laws.Buffers.{reads, nothing, Leaves, list-turn, list-end}
 use Rattle.tables.specs.Limits.{depthLimit}
@@ -85,16 +88,29 @@ module _ (x : Fixed) (m : Model) where
   unfolding treeLines lineOf decimalOf bytes
   tree-parts t {f} {e} hf he = λ i. (66 ∷ 44 ∷ []) ++ (digitsBefore (suc (hf i)) 10 (hf i) [] ++ (10 ∷ [])) ++ elementLines (suc depthLimit) x m (he i)
 
-  pub trees-parts : (77 ∷ 10 ∷ []) ++ (modelLines x m ++ waitingLines x m (x .elements .trees)) ≡ treesLines x m
+  pub trees-parts : (77 ∷ 10 ∷ []) ++ (modelLines x m ++ waitingLines x m (keep (waits m) (x .elements .trees))) ≡ treesLines x m
   unfolding treesLines lineOf bytes
   trees-parts = refl
 
-  module _ (l : List Tree) (t : ℕ) {start now : Buffer} {w : List ℕ} where
-    pub waiting-turn : {b : Buffer} → t < length l → Leaves start w now (waitingLines x m (drop t l)) → Appends now (treeLines x m (getD l t noTree)) b
-        → Leaves start w b (waitingLines x m (drop (t + 1) l))
-    unfolding waitingLines
-    waiting-turn h v p = list-turn (waitingLines x m) l t noTree h refl v p
+  -- the lines of those trees of a list that wait
+  abbrev pub keptLines : List Tree → List ℕ
+  keptLines l = waitingLines x m (keep (waits m) l)
 
-    pub waiting-end : length l ≤ t → Leaves start w now (waitingLines x m (drop t l)) → Appends start w now
-    unfolding waitingLines
-    waiting-end h v = list-end (waitingLines x m) l t h refl v
+  module _ (l : List Tree) (t : ℕ) {start now : Buffer} {w : List ℕ} {loaded file : ℕ} (h : t < length l) (v : Leaves start w now (keptLines (drop t l)))
+      (a : loaded ≡ loadedFiles m) (f : file ≡ getD l t noTree .file) where
+    waiting-known : {b : Bool} → holds loaded file ≡ b → waits m (getD l t noTree) ≡ not b
+    unfolding waits
+    waiting-known e = rw (← a, ← f, e)
+
+    -- a tree that is merged is not printed
+    pub merged-turn : holds loaded file ≡ true → Leaves start w now (keptLines (drop (t + 1) l))
+    unfolding keep
+    merged-turn e = list-turn keptLines l t noTree h (rw (keep, waiting-known e)) v (nothing now)
+
+    pub waiting-turn : {b : Buffer} → holds loaded file ≡ false → Appends now (treeLines x m (getD l t noTree)) b → Leaves start w b (keptLines (drop (t + 1) l))
+    unfolding keep waitingLines
+    waiting-turn e p = list-turn keptLines l t noTree h (rw (keep, waiting-known e)) v p
+
+  pub waiting-end : (l : List Tree) (t : ℕ) {start now : Buffer} {w : List ℕ} → length l ≤ t → Leaves start w now (keptLines (drop t l)) → Appends start w now
+  unfolding keep waitingLines
+  waiting-end l t h v = list-end keptLines l t h refl v

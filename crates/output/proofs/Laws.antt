@@ -1,0 +1,5 @@
+pub mod Requests
+pub mod Answers
+pub mod Entries
+pub mod Replies
+pub mod Runs

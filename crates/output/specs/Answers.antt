@@ -1,0 +1,46 @@
+-- What the requests and answers of the code stand for in the rules, and what is printed of them. Assumes nothing.
+use mathlib.Core.List.{List, [], _∷_}
+use mathlib.Core.Option.{Option, none, some}
+use Prim.Native.Nat.{ℕ}
+use Rattle.tables.specs.Bytes.{bytes}
+use Rattle.tables.specs.Records.{FileNumber, Element, Name, Version}
+use Rattle.merge_rules.specs.Book.{callMerge, callRollback, callRange}
+use Rattle.merge_rules.specs.Calls.{MergeAnswer, RangeAnswer, RollbackAnswer}
+use Rattle.merge_rules.specs.CallLists as rules
+use Rattle.merge_rules.specs.CallLists.{ofCall, ofModel, ofTrees, ofLog, rollbackLine, rangeLine}
+use Rattle.merge_rules.specs.Program.{decimalOf, orDash, lineOf, answerLine}
+use Rattle.merge_rules.specs.Refusals.{Refusal, refusalNumber, refusalElement, refusalName}
+use Rattle.merge_rules.specs.TableCalls.{CallAnswer, badTables, answered}
+use Rattle.output.specs.declared.requests.Request.{Request}
+use Rattle.output.specs.declared.requests.Request.the-variants.{Merge, Rollback, Range, Model, Trees, Log, Bad}
+
+-- ---- requests
+
+abbrev pub requestIs : Request → Option rules.Request
+requestIs (Merge f) = some (ofCall (callMerge f))
+requestIs (Rollback mark) = some (ofCall (callRollback mark))
+requestIs (Range e n v) = some (ofCall (callRange e n v))
+requestIs Model = some ofModel
+requestIs Trees = some ofTrees
+requestIs Log = some ofLog
+requestIs Bad = none
+
+-- ---- answers
+
+-- the last three fields of a refusal: its number, element and name
+unfoldable pub refusalFields : Refusal → List ℕ
+refusalFields r = lineOf (decimalOf (refusalNumber r) ∷ orDash (refusalElement r) ∷ orDash (refusalName r) ∷ [])
+
+-- the line of a call's answer; 0 is printed as a refusal without element and name
+unfoldable pub mergeText : FileNumber → CallAnswer MergeAnswer → List ℕ
+mergeText f badTables = lineOf (bytes "refused" ∷ decimalOf f ∷ bytes "0" ∷ bytes "-" ∷ bytes "-" ∷ [])
+mergeText f (answered a) = answerLine f a
+
+unfoldable pub rollbackText : ℕ → CallAnswer RollbackAnswer → List ℕ
+rollbackText mark badTables = lineOf (bytes "rollback-refused" ∷ decimalOf mark ∷ bytes "0" ∷ [])
+rollbackText mark (answered a) = rollbackLine mark a
+
+unfoldable pub rangeText : Element → Name → Version → CallAnswer RangeAnswer → List ℕ
+rangeText e n v badTables =
+    lineOf (bytes "range-refused" ∷ decimalOf e ∷ decimalOf n ∷ decimalOf v ∷ bytes "0" ∷ bytes "-" ∷ bytes "-" ∷ [])
+rangeText e n v (answered a) = rangeLine e n v a

@@ -1,0 +1,6 @@
+// What the program prints for a deck, and for a deck with a list of calls.
+mod answers;
+mod entries;
+pub mod print;
+mod reply;
+pub mod requests;
