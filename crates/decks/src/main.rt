@@ -31,10 +31,10 @@
 // slip: each shows one mistake that a port of the merge invites.
 // Lists: rolled_back_to (the example, to each mark), rollback, merge, trees, range, slip, log, items (calls one by one), largest_numbers,
 // smallest_numbers, and bad (a line of another form, each in one way).
+use streams::buffer::deck_buffer;
 use streams::buffer::megabyte;
 use streams::input::read_all;
 use streams::parts::print_all;
-use tables::limits::DECK_LIMIT;
 
 fn word(s: &[u8]) {
     io::write_all(libc::STDOUT_FILENO, s);
@@ -42,7 +42,7 @@ fn word(s: &[u8]) {
 
 // The deck in the file of this name, of which one byte more than a deck may have matters.
 fn run(name: &[u8], calls: &[u8], listed: bool) {
-    let mut deck = [0u8; DECK_LIMIT + 1];
+    let mut deck = deck_buffer();
     let fd = os::open_read(name);
     let r = read_all(fd, &mut deck);
     if !r.whole {

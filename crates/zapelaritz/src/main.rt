@@ -2,6 +2,7 @@
 // model; with CALLS, makes the calls of that file, one to a line, and prints what each answers.
 //
 // What is printed is proved, in `output`.
+use streams::buffer::deck_buffer;
 use streams::buffer::megabyte;
 use streams::input::CALLS_LIMIT;
 use streams::input::read_all;
@@ -16,7 +17,7 @@ fn complain(what: &[u8], why: &[u8]) {
 
 // The deck, with the calls of a list where there is one. Of a longer deck, one byte more than a deck may have is handed on: it is refused.
 fn run(name: &[u8], fd: i32, calls: &[u8], listed: bool) {
-    let mut deck = [0u8; DECK_LIMIT + 1];
+    let mut deck = deck_buffer();
     let r = read_all(fd, &mut deck);
     if !r.whole {
         os::fail(name);
