@@ -106,6 +106,12 @@ pub fn shared(deck: &[u8]) {
         deck,
         b"item 8 2\nitem 10 4\nset 2 1\nkeep\nmerge 1\nSets 5\nrollback 0\nequal\n",
     );
+    // 2 is paired with 7 twice, and gains the file once.
+    run(
+        b"2, with a set, in the lists of 1 and 3, and 7 in those of 6 and 8\n",
+        deck,
+        b"item 4 2\nitem 10 7\nset 2 1\nkeep\nmerge 1\nSets 5\nrollback 0\nequal\n",
+    );
     // Each of 1 and 3 is paired with the other. The merge lists 4 a second time in 3, which refusal 0 then sees.
     run(
         b"the waiting root has 3 and 1\n",

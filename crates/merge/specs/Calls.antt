@@ -4,7 +4,6 @@ use mathlib.Core.Option.{Option, none, some}
 use mathlib.Core.Path.{_≡_}
 use Prim.Native.Nat.{ℕ, _+_, _<_}
 use Rattle.tables.specs.Limits.{fileLimit}
-use Rattle.tables.specs.LogTable.{logOf}
 use Rattle.tables.specs.Records.{FileNumber, Tree}
 use Rattle.merge_rules.specs.Calls as rules
 use Rattle.merge_rules.specs.Calls.{rangeRefused, merged, mergeRefused, takenOff, rollbackRefused, countsOf, entriesAbove}

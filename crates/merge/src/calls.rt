@@ -26,7 +26,7 @@ ghost use Prim.Native.Nat.{_<_};
 ghost use lib.ListN.{length};
 ghost use Rattle.tables.specs.ElementsTable.{elementsOf};
 ghost use Rattle.tables.specs.Limits.{fileLimit};
-ghost use Rattle.tables.specs.LogTable.{logOf, GoodLog};
+ghost use Rattle.tables.specs.LogTable.{GoodLog};
 ghost use Rattle.table_test.specs.Fits.{GoodFixed, StateOver};
 ghost use Rattle.state_test.specs.StateTest.{fixedIn, stateIn};
 ghost use Rattle.merge_rules.specs.Calls.{rangeAnswer, mergedFrom, mergeTree};
@@ -174,10 +174,10 @@ pub fn merge(
 ) -> MergeAnswer
     ensures { λ r. ⌜ mergeResult r (now (model .exit)) (now (log .exit)) ≡ mergeCall (now (deck .entry)) (now (schema .entry)) (now (elements .entry)) (now (model .entry)) (now (log .entry)) file ⌝ }
 {
+    let f = FileNumber(file);
     if !lent_tables_pass(deck, schema, elements, model, log) {
         return MergeAnswer::BadTables;
     }
-    let f = FileNumber(file);
     let Waiting::Root(b) = waiting_tree(elements, model, f) else {
         return MergeAnswer::Refused(Refusal::NotWaiting);
     };

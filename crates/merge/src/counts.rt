@@ -4,8 +4,6 @@ use tables::log::entry_at;
 use tables::log::log_length;
 ghost use mathlib.Core.Path.{_≡_};
 ghost use mathlib.Core.List.{[], _∷_};
-ghost use Prim.Native.Nat.{_+_, _<_, _≤_};
-ghost use lib.ListN.{length};
 ghost use Rattle.tables.specs.LogTable.{logOf, GoodLog, entryIs};
 ghost use Rattle.merge_rules.specs.Calls.{countsOf, entriesAbove};
 ghost use Rattle.merge.specs.Calls.{countsIs, plusCounts, CountsBelow};

@@ -1,6 +1,4 @@
-// The merge on the lent tables: Level and Pairs, and the calls.
+// The merge on the lent tables: the waiting trees, the counts, and the calls.
 pub mod calls;
 pub mod counts;
-pub mod level;
-pub mod settle;
 pub mod tree;

@@ -1,8 +1,8 @@
 // The waiting tree of a file, and its merge into the model.
-use crate::level::WORK_SIZE;
-use crate::level::merge_element;
 use changes::log::extend;
 use changes::refusals::Outcome;
+use level::level::WORK_SIZE;
+use level::level::merge_element;
 use schema_calls::files::version_of;
 use tables::elements::tree_count;
 use tables::elements::tree_file;

@@ -52,20 +52,4 @@ returns-3 c =
     rolled-back (a .deck .now) (a .schema .now) (a .elements .now) (a .model .now) (a .log .now) (a .mark) (pass (c .before .before .before .before .before .before .before .before .before .before .before .before)) _ (r .last .0) (r .last .1 .0) (passed (c .before .before .before .before .before .before .before .before .before .before .is-mark .ensures) (c .before .before .before .before .before .before .before .before .before .if2 .left)) (c .before .before .before .before .before .before .before .log-length .ensures) (r .ensures .0) (r .ensures .1)
 
 pub rollback-spec : {M : Type 1} → statement M
-rollback-spec =
-    tie.close
-    (tie.spec
-    (λ c κs. search needs)
-    (λ c. search needs)
-    (λ c. search needs)
-    returns
-    is-mark-requires
-    (λ c. search needs)
-    (λ c. search needs)
-    returns-2
-    log-length-requires
-    rollback-merge-requires
-    sub-t25
-    (λ c. search needs)
-    (λ c. search needs)
-    returns-3)
+rollback-spec = tie.close (tie.spec (λ c κs. search needs) (λ c. search needs) (λ c. search needs) returns is-mark-requires (λ c. search needs) (λ c. search needs) returns-2 log-length-requires rollback-merge-requires sub-t25 (λ c. search needs) (λ c. search needs) returns-3)

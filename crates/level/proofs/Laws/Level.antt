@@ -1,0 +1,223 @@
+-- Level and Pairs on the lent tables. Assumes nothing.
+use mathlib.Core.List.{List, [], _∷_}
+use mathlib.Core.Option.{Option, none, some}
+use mathlib.Core.Path.{_≡_, refl, sym, ap, _∙_}
+use Prim.Native.Nat.{ℕ, suc, _+_, _-_, _*_, _≤_, _<_}
+use native.Mathlib.Omega.{arith}
+use types.Run.{OneOf}
+use denote.Enum.Declared.{tagOf}
+use lib.ListN.{length, getD, take}
+use lib.Seq.{getD-take}
+use Rattle.tables.specs.Limits.{versionLimit}
+use Rattle.tables.specs.ElementsTable.{elementsOf}
+use Rattle.tables.specs.ModelTable.{modelOf}
+use Rattle.tables.specs.Records.{Element, FileNumber, FileSet, Version, State, Fixed}
+use Rattle.tables.specs.SchemaTable.{schemaOf}
+use Rattle.table_test.specs.Fits.{StateOver, KeepsState}
+use Rattle.table_test.specs.SchemaTest.{TestedSchema}
+use Rattle.deck.specs.Schema.{versionOf, leastVersion}
+use Rattle.state_test.specs.StateTest.{fixedIn, stateIn}
+use Rattle.state_test.proofs.Laws.States.{version-low, least-low}
+use Rattle.merge_rules.specs.Level.{filesOfPair, settle, mergeSubElements, mergePlan, levelVersion, mergeElement}
+use Rattle.merge_rules.specs.Pairing.{childrenOf, Plan, Walked, planned, unmergeableIn, walkLevel, firstUsedTwice}
+use Rattle.merge_rules.specs.Refusals.{Outcome, done, refused, unmergeable, usedTwice, _>>=_}
+use Rattle.pairing.specs.Plans.{spread, pairIn, rowElement, rowValue, planIn, RowsIn, LevelPlan, levelPlan, childUsedTwice, levelUnmergeable, orUsedTwice, checkedPlan, planLevel, plannedIs, PlanIn}
+use Rattle.pairing.specs.declared.plan.Planned.{Planned}
+use Rattle.pairing.specs.declared.plan.Planned.the-variants.{Rows, UsedTwice, Unmergeable}
+use Rattle.pairing.proofs.Laws.Spreads.{spread-here, spread-done}
+use Rattle.pairing.proofs.Laws.Rows.{mated, not-mated}
+use Rattle.changes.specs.Answers.{outcomeIs}
+use Rattle.changes.specs.declared.refusals.Outcome as step
+use Rattle.changes.specs.declared.refusals.Outcome.the-variants.{Done}
+use Rattle.changes.proofs.refusals.Outcome.{the-type}
+use Rattle.changes.proofs.Laws.Imports.{then-done, then-stop}
+use Rattle.level.specs.Level.{applyPlan, mergeLevel}
+
+-- ---- versions
+
+module _ (schema : List ℕ) (f : FileNumber) (version : Version) (is : version ≡ versionOf (schemaOf schema) f) where
+  pub new-low : TestedSchema schema → version < versionLimit
+  new-low t = rw is (version-low f schema t)
+
+  module _ (files : FileSet) (v : Version) (least : v ≡ leastVersion (schemaOf schema) files version) where
+    pub level-version-is : (deck elements : List ℕ) → v ≡ levelVersion (fixedIn deck schema elements) f files
+    unfolding levelVersion
+    level-version-is deck elements = least ∙ rw is
+
+    pub level-version-low : TestedSchema schema → v < versionLimit
+    level-version-low t = omega (arith, new-low t, least-low (schemaOf schema) files version)
+
+-- ---- a level by its plan
+
+module _ (lower : FileSet → Element → Element → State → Outcome) (x : Fixed) (f : FileNumber) (v : Version) (files : FileSet) (a b : Element) (s : State) where
+  by-twice : (p : Plan) (o : Option Element)
+      → elim o [ some c ↦ refused (usedTwice c) | none ↦ applyPlan x f files a p s >>= mergeSubElements lower x f v a files (p .pairs) ]
+      ≡ mergeLevel lower x f v files a (orUsedTwice p o) s
+  unfolding orUsedTwice mergeLevel
+  by-twice p none = refl
+  by-twice p (some c) = refl
+
+  by-walk : (w : Walked)
+      → elim w [ planned plan ↦ mergePlan lower x f v files a b plan s | unmergeableIn ↦ refused (unmergeable a) ]
+      ≡ mergeLevel lower x f v files a (checkedPlan (childrenOf (s .model) b) w) s
+  unfolding mergePlan mergeLevel checkedPlan applyPlan
+  by-walk (planned p) = by-twice p (firstUsedTwice p (childrenOf (s .model) b))
+  by-walk unmergeableIn = refl
+
+module _ (d : ℕ) (x : Fixed) (f : FileNumber) (files : FileSet) (a b : Element) (s : State) where
+  pub level-none : d ≡ 0 → refused (unmergeable a) ≡ mergeElement d x f files a b s
+  unfolding mergeElement
+  level-none e = rw e
+
+  pub level-less : (d ≡ 0 → ⊥) → mergeElement (suc (d - 1)) x f files a b s ≡ mergeElement d x f files a b s
+  level-less n = let z : suc (d - 1) ≡ d = omega arith in rw z
+
+  level-is : mergeElement (suc d) x f files a b s
+      ≡ mergeLevel (mergeElement d x f) x f (levelVersion x f files) files a (planLevel x (s .model) (levelVersion x f files) a b) s
+  unfolding mergeElement planLevel
+  level-is =
+      by-walk (mergeElement d x f) x f (levelVersion x f files) files a b s (walkLevel x (s .model) (levelVersion x f files) a b)
+
+  module _ (v : Version) (of-level : v ≡ levelVersion x f files) (q : Planned) (w : List ℕ) (plan : plannedIs q w ≡ planLevel x (s .model) v a b) where
+    by-plan : (p : LevelPlan) → plannedIs q w ≡ p → mergeElement (suc d) x f files a b s ≡ mergeLevel (mergeElement d x f) x f v files a p s
+    by-plan p e = level-is ∙ rw (← of-level, ← plan, e)
+
+    pub level-twice : (c : _) → q ≡ UsedTwice c → refused (usedTwice (c .0)) ≡ mergeElement (suc d) x f files a b s
+    unfolding mergeLevel
+    level-twice c e = sym (by-plan (childUsedTwice (c .0)) (rw e))
+
+    pub level-stuck : q ≡ Unmergeable → refused (unmergeable a) ≡ mergeElement (suc d) x f files a b s
+    unfolding mergeLevel
+    level-stuck e = sym (by-plan levelUnmergeable (rw e))
+
+    -- the restrictions and imports, with their answer and the state that they left
+    module _ (na ni : ℕ) (rows : q ≡ Rows na ni) (t : State) (o : step.Outcome) (applied : outcomeIs o t ≡ applyPlan x f files a (planIn na ni w) s) where
+      pub level-stop : OneOf (1 ∷ 2 ∷ []) (tagOf the-type o) → outcomeIs o t ≡ mergeElement (suc d) x f files a b s
+      unfolding mergeLevel
+      level-stop h = then-stop t _ o applied h ∙ sym (by-plan (levelPlan (planIn na ni w)) (rw rows))
+
+      pub level-pairs : o ≡ Done → mergeSubElements (mergeElement d x f) x f v a files (planIn na 0 w .pairs) t ≡ mergeElement (suc d) x f files a b s
+      unfolding mergeLevel
+      level-pairs h = sym (then-done t _ o applied h) ∙ sym (by-plan (levelPlan (planIn na ni w)) (rw rows))
+
+-- the rows of A alone
+pub rows-first : (n : ℕ) (w : List ℕ) (na ni : ℕ) → RowsIn n w na ni → RowsIn n w na 0
+rows-first n w na ni r =
+    record {
+      room = omega (arith, r .room);
+      few = omega (arith, r .few);
+      element = λ i h. r .element i (omega arith);
+      mate = r .mate;
+      place = λ i h. r .place i (omega arith);
+    }
+
+pub plan-rows : (n : ℕ) (q : Planned) (w : List ℕ) (na ni : ℕ) → PlanIn n q w → q ≡ Rows na ni → RowsIn n w na ni
+plan-rows n q w na ni h e = rw e at h
+
+-- ---- Pairs
+
+module _ (lower : FileSet → Element → Element → State → Outcome) (deck schema elements : List ℕ) (f : FileNumber) (v : Version) (p : Element) (files : FileSet)
+    (na : ℕ) (w₀ m₀ l₀ : List ℕ) where
+  abbrev pairsOn : List ℕ → List ℕ → ℕ → Outcome
+  pairsOn m l i = mergeSubElements lower (fixedIn deck schema elements) f v p files (spread (pairIn w₀) i (na - i)) (stateIn m l)
+
+  -- the pairs of the rows behind the first i do to the tables what is left of the whole; A's rows stay
+  pub record PairsLeft (w m l : List ℕ) (i : ℕ) : Type 0 where
+    pub within : i ≤ na
+    pub front : take (2 * na) w ≡ take (2 * na) w₀
+    pub size : length w ≡ length w₀
+    pub modelSize : length m ≡ length m₀
+    pub logSize : length l ≡ length l₀
+    pub fits : StateOver elements m l
+    pub keeps : KeepsState m₀ l₀ m l
+    pub left : pairsOn m l i ≡ mergeSubElements lower (fixedIn deck schema elements) f v p files (planIn na 0 w₀ .pairs) (stateIn m₀ l₀)
+
+  pub pairs-start : StateOver elements m₀ l₀ → PairsLeft w₀ m₀ l₀ 0
+  pairs-start s =
+      let e : na - 0 ≡ na = omega arith in
+      record {
+        within = omega arith;
+        front = refl;
+        size = refl;
+        modelSize = refl;
+        logSize = refl;
+        fits = s;
+        keeps = λ n texts q. q;
+        left = rw e;
+      }
+
+  module _ (w m l : List ℕ) (i : ℕ) (k : PairsLeft w m l i) where
+    pub pairs-end : na ≤ i → done (stateIn m l) ≡ mergeSubElements lower (fixedIn deck schema elements) f v p files (planIn na 0 w₀ .pairs) (stateIn m₀ l₀)
+    unfolding mergeSubElements
+    pairs-end h = sym (rw (spread-done (pairIn w₀) i na h)) ∙ k .left
+
+    module _ (h : i < na) where
+      front-at : (c : ℕ) → c < 2 * na → getD w c 0 ≡ getD w₀ c 0
+      front-at c q = sym (getD-take (2 * na) w c 0 q) ∙ ap (λ (xs : List ℕ). getD xs c 0) (k .front) ∙ getD-take (2 * na) w₀ c 0 q
+
+      pub row-element : rowElement w i ≡ rowElement w₀ i
+      row-element = front-at (2 * i) (omega arith)
+
+      pub row-value : rowValue w i ≡ rowValue w₀ i
+      row-value = front-at (2 * i + 1) (omega arith)
+
+      module _ (rows : RowsIn (length (elementsOf elements .names)) w₀ na 0) where
+        pub first-in : rowElement w i < length (elementsOf elements .names)
+        first-in = rw row-element (rows .element i (omega arith))
+
+        pub mate-in : (rowValue w i ≡ 0 → ⊥) → rowValue w i - 1 < length (elementsOf elements .names)
+        mate-in n = omega (arith, row-value, rows .mate i h)
+
+      -- an A-only one
+      pub pairs-skip : rowValue w i ≡ 0 → PairsLeft w m l (i + 1)
+      pairs-skip e =
+          record {
+            within = omega arith;
+            front = k .front;
+            size = k .size;
+            modelSize = k .modelSize;
+            logSize = k .logSize;
+            fits = k .fits;
+            keeps = k .keeps;
+            left = sym (rw (spread-here (pairIn w₀) i na h, not-mated (rowElement w₀ i) (rowValue w₀ i) (sym row-value ∙ e))) ∙ k .left;
+          }
+
+      -- a pair, its level's answer with the tables that it left, and what became of it
+      module _ (some : rowValue w i ≡ 0 → ⊥) (own : FileSet) (mark : ℕ) (m₁ l₁ : List ℕ) (o₁ : step.Outcome) (m₂ l₂ : List ℕ) (o₂ : step.Outcome)
+          (files-own : own ≡ filesOfPair files (modelOf m) (rowElement w i))
+          (marked : mark ≡ length (stateIn m l .log))
+          (below : outcomeIs o₁ (stateIn m₁ l₁) ≡ lower own (rowElement w i) (rowValue w i - 1) (stateIn m l))
+          (settled :
+          outcomeIs o₂ (stateIn m₂ l₂)
+          ≡ settle (fixedIn deck schema elements) f v p (record { a = rowElement w i; b = rowValue w i - 1 }) own mark (outcomeIs o₁ (stateIn m₁ l₁))) where
+        abbrev turned : Outcome
+        turned =
+            settle (fixedIn deck schema elements) f v p (record { a = rowElement w i; b = rowValue w i - 1 }) own mark
+            (lower own (rowElement w i) (rowValue w i - 1) (stateIn m l))
+
+        here : pairsOn m l i
+            ≡ (turned >>= mergeSubElements lower (fixedIn deck schema elements) f v p files (spread (pairIn w₀) (i + 1) (na - (i + 1))))
+        unfolding mergeSubElements
+        here =
+            rw (spread-here (pairIn w₀) i na h, mated (rowElement w₀ i) (rowValue w₀ i) (λ z. some (row-value ∙ z)), ← row-element, ← row-value, ← files-own, ← marked)
+
+        is : outcomeIs o₂ (stateIn m₂ l₂) ≡ turned
+        is = settled ∙ rw below
+
+        pub pairs-stop : OneOf (1 ∷ 2 ∷ []) (tagOf the-type o₂)
+            → outcomeIs o₂ (stateIn m₂ l₂) ≡ mergeSubElements lower (fixedIn deck schema elements) f v p files (planIn na 0 w₀ .pairs) (stateIn m₀ l₀)
+        pairs-stop t = then-stop (stateIn m₂ l₂) _ o₂ is t ∙ sym here ∙ k .left
+
+        pub pairs-more : (w′ : List ℕ) → take (2 * na) w′ ≡ take (2 * na) w → length w′ ≡ length w → length m₂ ≡ length m → length l₂ ≡ length l → o₂ ≡ Done
+            → KeepsState m l m₁ l₁ → KeepsState m₁ l₁ m₂ l₂ → PairsLeft w′ m₂ l₂ (i + 1)
+        pairs-more w′ front size modelSize logSize d first second =
+            record {
+              within = omega arith;
+              front = front ∙ k .front;
+              size = size ∙ k .size;
+              modelSize = modelSize ∙ k .modelSize;
+              logSize = logSize ∙ k .logSize;
+              fits = second _ _ (first _ _ (k .fits));
+              keeps = λ n texts q. second n texts (first n texts (k .keeps n texts q));
+              left = sym (then-done (stateIn m₂ l₂) _ o₂ is d) ∙ sym here ∙ k .left;
+            }

@@ -1,0 +1,372 @@
+// Level and Pairs, which call each other, one depth lower each time.
+use crate::settle::files_of_pair;
+use crate::settle::settle;
+use changes::import::import_new_items;
+use changes::log::restrict;
+use changes::refusals::Outcome;
+use changes::refusals::Refusal;
+use pairing::plan::Planned;
+use pairing::walk::plan_level;
+use schema_calls::files::least_version;
+use tables::file_set::FileSet;
+use tables::limits::ITEM_LIMIT;
+use tables::log::log_length;
+use tables::model::list_length;
+use tables::model::set_of;
+use tables::numbers::Element;
+use tables::numbers::FileNumber;
+ghost use mathlib.Core.List.{List};
+ghost use mathlib.Core.Path.{_≡_};
+ghost use Prim.Native.Nat.{ℕ, suc, _+_, _*_, _<_, _≤_};
+ghost use lib.ListN.{length};
+ghost use Rattle.tables.specs.Cells.{Each};
+ghost use Rattle.tables.specs.ElementsTable.{elementsOf, GoodElements};
+ghost use Rattle.tables.specs.Limits.{fileLimit, itemLimit, versionLimit};
+ghost use Rattle.tables.specs.LogTable.{GoodLog};
+ghost use Rattle.tables.specs.ModelTable.{countOf, modelOf, GoodModel};
+ghost use Rattle.tables.specs.Records.{listOf};
+ghost use Rattle.tables.specs.SchemaTable.{schemaOf};
+ghost use Rattle.tables.specs.SetCells.{setIs};
+ghost use Rattle.table_test.specs.Fits.{GoodFixed, LogFits, StateOver, KeepsState};
+ghost use Rattle.table_test.specs.SchemaTest.{TestedSchema};
+ghost use Rattle.deck.specs.Schema.{versionOf};
+ghost use Rattle.state_test.specs.StateTest.{fixedIn, stateIn};
+ghost use Rattle.merge_rules.specs.Level.{restrictElements, mergeElement, mergeSubElements};
+ghost use Rattle.pairing.specs.Plans.{planIn, RowsIn};
+ghost use Rattle.changes.specs.Answers.{outcomeIs};
+ghost use Rattle.level.specs.Level.{restrictNew, applyPlan};
+
+// Cells for the plan of any level.
+pub const WORK_SIZE: usize = 5 * ITEM_LIMIT;
+
+// Cells for the plan of the level of a and b.
+fn level_room(model: &[u64], a: Element, b: Element) -> usize
+    requires { ⌜ GoodModel (now model) ⌝ }
+    requires { ⌜ a .0 < countOf (modelOf (now model)) ⌝ }
+    requires { ⌜ b .0 < countOf (modelOf (now model)) ⌝ }
+    ensures { λ r. ⌜ r ≡ 2 * length (listOf (modelOf (now (model .entry))) (a .0)) + 3 * length (listOf (modelOf (now (model .entry))) (b .0)) ⌝ }
+    ensures { λ r. ⌜ r ≤ 5 * itemLimit ⌝ }
+{
+    2 * list_length(model, a) + 3 * list_length(model, b)
+}
+
+// An A-only element without a set gets the level's files.
+fn restrict_new(model: &mut [u64], log: &mut [u64], a: Element, files: FileSet) -> Outcome
+    requires { ⌜ GoodModel (now model) ⌝ }
+    requires { ⌜ GoodLog (now log) ⌝ }
+    requires { ⌜ a .0 < countOf (modelOf (now model)) ⌝ }
+    ensures { λ r. ⌜ outcomeIs r (stateIn (now (model .exit)) (now (log .exit))) ≡ restrictNew (setIs files) (a .0) (stateIn (now (model .entry)) (now (log .entry))) ⌝ }
+    ensures { λ _. ⌜ KeepsState (now (model .entry)) (now (log .entry)) (now (model .exit)) (now (log .exit)) ⌝ }
+{
+    let own = set_of(model, a);
+    if own.is_empty() {
+        return restrict(model, log, a, files);
+    }
+    Outcome::Done
+}
+
+// The A-only elements of a plan, in order.
+fn restrict_elements(
+    model: &mut [u64],
+    log: &mut [u64],
+    work: &[u64],
+    na: usize,
+    files: FileSet,
+) -> Outcome
+    requires { ⌜ GoodModel (now model) ⌝ }
+    requires { ⌜ LogFits (countOf (modelOf (now model))) (now log) ⌝ }
+    requires { ⌜ RowsIn (countOf (modelOf (now model))) (now work) na 0 ⌝ }
+    ensures { λ r. ⌜ outcomeIs r (stateIn (now (model .exit)) (now (log .exit))) ≡ restrictElements (setIs files) (planIn na 0 (now (work .entry)) .restrictions) (stateIn (now (model .entry)) (now (log .entry))) ⌝ }
+    ensures { λ _. ⌜ KeepsState (now (model .entry)) (now (log .entry)) (now (model .exit)) (now (log .exit)) ⌝ }
+{
+    let mut i: usize = 0;
+    while i < na {
+        let row = 2 * i;
+        if work[row + 1] != 0 {
+            i += 1;
+            continue;
+        }
+        let a = Element(work[row] as usize);
+        let r = restrict_new(model, log, a, files);
+        if let Outcome::Done = r {
+            i += 1;
+        } else {
+            return r;
+        }
+    }
+    Outcome::Done
+}
+
+// The restrictions and imports of a plan, imports in the new file's version.
+fn apply_plan(
+    schema: &[u64],
+    elements: &[u64],
+    model: &mut [u64],
+    log: &mut [u64],
+    work: &[u64],
+    na: usize,
+    ni: usize,
+    f: FileNumber,
+    version: u64,
+    files: FileSet,
+    a: Element,
+) -> Outcome
+    requires { ⌜ TestedSchema (now schema) ⌝ }
+    requires { ⌜ GoodElements (now elements) ⌝ }
+    requires { ⌜ Each (λ (t : ℕ). t < length (schemaOf (now schema) .types)) (elementsOf (now elements) .types) ⌝ }
+    requires { ⌜ StateOver (now elements) (now model) (now log) ⌝ }
+    requires { ⌜ RowsIn (length (elementsOf (now elements) .names)) (now work) na ni ⌝ }
+    requires { ⌜ f .0 < fileLimit ⌝ }
+    requires { ⌜ version ≡ versionOf (schemaOf (now schema)) (f .0) ⌝ }
+    requires { ⌜ a .0 < length (elementsOf (now elements) .names) ⌝ }
+    ensures { λ r. ⌜ ((deck : List ℕ) → outcomeIs r (stateIn (now (model .exit)) (now (log .exit))) ≡ applyPlan (fixedIn deck (now (schema .entry)) (now (elements .entry))) (f .0) (setIs files) (a .0) (planIn na ni (now (work .entry))) (stateIn (now (model .entry)) (now (log .entry)))) ⌝ }
+    ensures { λ _. ⌜ KeepsState (now (model .entry)) (now (log .entry)) (now (model .exit)) (now (log .exit)) ⌝ }
+{
+    let r = restrict_elements(model, log, work, na, files);
+    if let Outcome::Done = r {
+        return import_new_items(schema, elements, model, log, work, na, ni, f, version, a);
+    }
+    r
+}
+
+// Level: b is merged into a. At depth 0, where no listed element is, refusal 6.
+pub fn merge_element(
+    deck: &[u8],
+    schema: &[u64],
+    elements: &[u64],
+    model: &mut [u64],
+    log: &mut [u64],
+    work: &mut [u64],
+    f: FileNumber,
+    version: u64,
+    files: FileSet,
+    a: Element,
+    b: Element,
+    depth: usize,
+) -> Outcome
+    requires { ⌜ GoodFixed (now deck) (now schema) (now elements) ⌝ }
+    requires { ⌜ StateOver (now elements) (now model) (now log) ⌝ }
+    requires { ⌜ f .0 < fileLimit ⌝ }
+    requires { ⌜ version ≡ versionOf (schemaOf (now schema)) (f .0) ⌝ }
+    requires { ⌜ a .0 < length (elementsOf (now elements) .names) ⌝ }
+    requires { ⌜ b .0 < length (elementsOf (now elements) .names) ⌝ }
+    ensures { λ r. ⌜ outcomeIs r (stateIn (now (model .exit)) (now (log .exit))) ≡ mergeElement depth (fixedIn (now (deck .entry)) (now (schema .entry)) (now (elements .entry))) (f .0) (setIs files) (a .0) (b .0) (stateIn (now (model .entry)) (now (log .entry))) ⌝ }
+    ensures { λ _. ⌜ KeepsState (now (model .entry)) (now (log .entry)) (now (model .exit)) (now (log .exit)) ⌝ }
+{
+    if depth == 0 {
+        return Outcome::Refused(Refusal::Unmergeable(a));
+    }
+    if level_room(model, a, b) <= work.len() {
+        return merge_level(
+            deck,
+            schema,
+            elements,
+            model,
+            log,
+            work,
+            f,
+            version,
+            files,
+            a,
+            b,
+            depth - 1,
+        );
+    }
+    merge_apart(
+        deck,
+        schema,
+        elements,
+        model,
+        log,
+        f,
+        version,
+        files,
+        a,
+        b,
+        depth - 1,
+    )
+}
+
+// A level whose plan has no room in the scratch slice.
+fn merge_apart(
+    deck: &[u8],
+    schema: &[u64],
+    elements: &[u64],
+    model: &mut [u64],
+    log: &mut [u64],
+    f: FileNumber,
+    version: u64,
+    files: FileSet,
+    a: Element,
+    b: Element,
+    depth: usize,
+) -> Outcome
+    requires { ⌜ GoodFixed (now deck) (now schema) (now elements) ⌝ }
+    requires { ⌜ StateOver (now elements) (now model) (now log) ⌝ }
+    requires { ⌜ f .0 < fileLimit ⌝ }
+    requires { ⌜ version ≡ versionOf (schemaOf (now schema)) (f .0) ⌝ }
+    requires { ⌜ a .0 < length (elementsOf (now elements) .names) ⌝ }
+    requires { ⌜ b .0 < length (elementsOf (now elements) .names) ⌝ }
+    requires { ⌜ 2 * length (listOf (modelOf (now model)) (a .0)) + 3 * length (listOf (modelOf (now model)) (b .0)) ≤ 5 * itemLimit ⌝ }
+    ensures { λ r. ⌜ outcomeIs r (stateIn (now (model .exit)) (now (log .exit))) ≡ mergeElement (suc depth) (fixedIn (now (deck .entry)) (now (schema .entry)) (now (elements .entry))) (f .0) (setIs files) (a .0) (b .0) (stateIn (now (model .entry)) (now (log .entry))) ⌝ }
+    ensures { λ _. ⌜ KeepsState (now (model .entry)) (now (log .entry)) (now (model .exit)) (now (log .exit)) ⌝ }
+{
+    let mut work = [0u64; WORK_SIZE];
+    merge_level(
+        deck,
+        schema,
+        elements,
+        model,
+        log,
+        &mut work,
+        f,
+        version,
+        files,
+        a,
+        b,
+        depth,
+    )
+}
+
+// The plan of the level, its restrictions and imports, and its pairs.
+fn merge_level(
+    deck: &[u8],
+    schema: &[u64],
+    elements: &[u64],
+    model: &mut [u64],
+    log: &mut [u64],
+    work: &mut [u64],
+    f: FileNumber,
+    version: u64,
+    files: FileSet,
+    a: Element,
+    b: Element,
+    depth: usize,
+) -> Outcome
+    requires { ⌜ GoodFixed (now deck) (now schema) (now elements) ⌝ }
+    requires { ⌜ StateOver (now elements) (now model) (now log) ⌝ }
+    requires { ⌜ f .0 < fileLimit ⌝ }
+    requires { ⌜ version ≡ versionOf (schemaOf (now schema)) (f .0) ⌝ }
+    requires { ⌜ a .0 < length (elementsOf (now elements) .names) ⌝ }
+    requires { ⌜ b .0 < length (elementsOf (now elements) .names) ⌝ }
+    requires { ⌜ 2 * length (listOf (modelOf (now model)) (a .0)) + 3 * length (listOf (modelOf (now model)) (b .0)) ≤ length (now work) ⌝ }
+    ensures { λ r. ⌜ outcomeIs r (stateIn (now (model .exit)) (now (log .exit))) ≡ mergeElement (suc depth) (fixedIn (now (deck .entry)) (now (schema .entry)) (now (elements .entry))) (f .0) (setIs files) (a .0) (b .0) (stateIn (now (model .entry)) (now (log .entry))) ⌝ }
+    ensures { λ _. ⌜ KeepsState (now (model .entry)) (now (log .entry)) (now (model .exit)) (now (log .exit)) ⌝ }
+{
+    let v = least_version(schema, files, version);
+    let planned = plan_level(deck, schema, elements, model, v, a, b, work);
+    match planned {
+        Planned::Rows(na, ni) => {
+            let r = apply_plan(
+                schema,
+                elements,
+                model,
+                log,
+                work,
+                na,
+                ni,
+                f,
+                version,
+                files,
+                a,
+            );
+            if let Outcome::Done = r {
+                return merge_sub_elements(
+                    deck,
+                    schema,
+                    elements,
+                    model,
+                    log,
+                    work,
+                    na,
+                    f,
+                    version,
+                    v,
+                    files,
+                    a,
+                    depth,
+                );
+            }
+            r
+        }
+        Planned::UsedTwice(c) => Outcome::Refused(Refusal::UsedTwice(c)),
+        Planned::Unmergeable => Outcome::Refused(Refusal::Unmergeable(a)),
+    }
+}
+
+// Pairs, in order: the level of each, and what becomes of it. Levels below have the scratch slice behind the rows of A.
+fn merge_sub_elements(
+    deck: &[u8],
+    schema: &[u64],
+    elements: &[u64],
+    model: &mut [u64],
+    log: &mut [u64],
+    work: &mut [u64],
+    na: usize,
+    f: FileNumber,
+    version: u64,
+    v: u64,
+    files: FileSet,
+    p: Element,
+    depth: usize,
+) -> Outcome
+    requires { ⌜ GoodFixed (now deck) (now schema) (now elements) ⌝ }
+    requires { ⌜ StateOver (now elements) (now model) (now log) ⌝ }
+    requires { ⌜ f .0 < fileLimit ⌝ }
+    requires { ⌜ version ≡ versionOf (schemaOf (now schema)) (f .0) ⌝ }
+    requires { ⌜ v < versionLimit ⌝ }
+    requires { ⌜ p .0 < length (elementsOf (now elements) .names) ⌝ }
+    requires { ⌜ RowsIn (length (elementsOf (now elements) .names)) (now work) na 0 ⌝ }
+    ensures { λ r. ⌜ outcomeIs r (stateIn (now (model .exit)) (now (log .exit))) ≡ mergeSubElements (mergeElement depth (fixedIn (now (deck .entry)) (now (schema .entry)) (now (elements .entry))) (f .0)) (fixedIn (now (deck .entry)) (now (schema .entry)) (now (elements .entry))) (f .0) v (p .0) (setIs files) (planIn na 0 (now (work .entry)) .pairs) (stateIn (now (model .entry)) (now (log .entry))) ⌝ }
+    ensures { λ _. ⌜ KeepsState (now (model .entry)) (now (log .entry)) (now (model .exit)) (now (log .exit)) ⌝ }
+{
+    let rows = 2 * na;
+    let mut i: usize = 0;
+    while i < na {
+        let row = 2 * i;
+        let mate = work[row + 1];
+        if mate == 0 {
+            i += 1;
+            continue;
+        }
+        let a = Element(work[row] as usize);
+        let b = Element((mate - 1) as usize);
+        let own = files_of_pair(model, files, a);
+        let mark = log_length(log);
+        let below = merge_element(
+            deck,
+            schema,
+            elements,
+            model,
+            log,
+            &mut work[rows..],
+            f,
+            version,
+            own,
+            a,
+            b,
+            depth,
+        );
+        let r = settle(
+            deck,
+            schema,
+            elements,
+            model,
+            log,
+            f,
+            v,
+            p,
+            a,
+            b,
+            own,
+            mark,
+            below,
+        );
+        if let Outcome::Done = r {
+            i += 1;
+        } else {
+            return r;
+        }
+    }
+    Outcome::Done
+}
