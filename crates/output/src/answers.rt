@@ -1,25 +1,27 @@
 // Lines of answers, behind what a buffer holds.
+use crate::refusals::Optional;
+use crate::refusals::refusal_fields;
 use changes::refusals::Refusal;
 use merge::calls::MergeAnswer;
 use merge::calls::RangeAnswer;
 use merge::calls::RollbackAnswer;
 use merge::counts::Counts;
 use printing::buffer::Written;
+use printing::buffer::append_byte;
 use printing::buffer::append_bytes;
 use printing::buffer::append_number;
-use tables::numbers::Element;
 ghost use mathlib.Core.List.{List, [], _∷_, _++_};
 ghost use mathlib.Core.Path.{_≡_};
 ghost use Prim.Native.Nat.{ℕ};
 ghost use Rattle.tables.specs.Bytes.{bytes};
 ghost use Rattle.merge_rules.specs.Calls.{merged, mergeRefused, rangeRefused, rollbackRefused};
 ghost use Rattle.merge_rules.specs.CallLists.{rangeLine};
-ghost use Rattle.merge_rules.specs.Program.{decimalOf, lineOf, answerLine, refusedDeck};
-ghost use Rattle.merge_rules.specs.Refusals.{refusalNumber};
+ghost use Rattle.merge_rules.specs.Program.{decimalOf, orDash, lineOf, answerLine, refusedDeck};
 ghost use Rattle.merge_rules.specs.TableCalls.{badTables, answered};
 ghost use Rattle.changes.specs.Answers.{refusalIs};
 ghost use Rattle.merge.specs.Calls.{countsIs, mergeAnswerIs, rangeAnswerIs, rollbackAnswerIs};
 ghost use Rattle.printing.specs.Buffers.{bufferIs, Appends};
+ghost use Rattle.output.specs.Refusals.{optionalIs};
 ghost use Rattle.output.specs.Answers.{refusalFields, mergeText, rollbackText, rangeText};
 
 // A word with its comma and a number with its own: the first two fields of a line.
@@ -48,51 +50,29 @@ pub fn append_refused_deck(out: &mut [u8], w: Written, number: u64, line: u64) -
 
 // ---- refusals
 
-// A number with its comma, an element, and no name.
-fn append_of_element(out: &mut [u8], w: Written, number: &[u8], e: Element) -> Written
-    ensures { λ r. ⌜ Appends (bufferIs w (now (out .entry))) (now (number .entry) ++ ((decimalOf (e .0) ++ bytes ",") ++ bytes "-\n")) (bufferIs r (now (out .exit))) ⌝ }
+// A number, or `-`, and a byte behind it.
+fn append_optional(out: &mut [u8], w: Written, n: Optional, end: u8) -> Written
+    ensures { λ r. ⌜ Appends (bufferIs w (now (out .entry))) (orDash (optionalIs n) ++ (end ∷ [])) (bufferIs r (now (out .exit))) ⌝ }
 {
-    let n = e.0 as u64;
-    let k = append_head(out, w, number, n);
-    append_bytes(out, k, b"-\n")
+    match n {
+        Optional::Missing => {
+            let k = append_byte(out, w, b'-');
+            append_byte(out, k, end)
+        }
+        Optional::Given(x) => append_number(out, w, x, 10, end),
+    }
 }
 
 // A refusal's number, element and name.
 fn append_refusal(out: &mut [u8], w: Written, x: Refusal) -> Written
     ensures { λ r. ⌜ Appends (bufferIs w (now (out .entry))) (refusalFields (refusalIs x)) (bufferIs r (now (out .exit))) ⌝ }
 {
-    match x {
-        Refusal::NotWaiting => append_bytes(out, w, b"5,-,-\n"),
-        Refusal::Unmergeable(e) => append_of_element(out, w, b"6,", e),
-        Refusal::NotInVersion(e, n) => {
-            let k = append_bytes(out, w, b"7,");
-            append_tail(out, k, e.0 as u64, n.0)
-        }
-        Refusal::UsedTwice(e) => append_of_element(out, w, b"8,", e),
-        Refusal::LogFull => append_bytes(out, w, b"9,-,-\n"),
-        Refusal::ContentFull => append_bytes(out, w, b"10,-,-\n"),
-        Refusal::NoSuchElement => append_bytes(out, w, b"11,-,-\n"),
-        Refusal::CharactersParent(e) => append_of_element(out, w, b"12,", e),
-        Refusal::NoPlace(e) => append_of_element(out, w, b"13,", e),
-        Refusal::NoMark => append_bytes(out, w, b"14,-,-\n"),
-    }
-}
-
-fn refusal_number(x: Refusal) -> u64
-    ensures { λ r. ⌜ r ≡ refusalNumber (refusalIs x) ⌝ }
-{
-    match x {
-        Refusal::NotWaiting => 5,
-        Refusal::Unmergeable(_) => 6,
-        Refusal::NotInVersion(_, _) => 7,
-        Refusal::UsedTwice(_) => 8,
-        Refusal::LogFull => 9,
-        Refusal::ContentFull => 10,
-        Refusal::NoSuchElement => 11,
-        Refusal::CharactersParent(_) => 12,
-        Refusal::NoPlace(_) => 13,
-        Refusal::NoMark => 14,
-    }
+    let f = refusal_fields(x);
+    let e = f.element;
+    let n = f.name;
+    let k = append_number(out, w, f.number, 10, b',');
+    let l = append_optional(out, k, e, b',');
+    append_optional(out, l, n, b'\n')
 }
 
 // ---- merge
@@ -139,7 +119,10 @@ pub fn append_rollback(out: &mut [u8], w: Written, mark: u64, a: RollbackAnswer)
             let k = append_bytes(out, w, b"rolledback,");
             append_tail(out, k, mark, n as u64)
         }
-        RollbackAnswer::Refused(x) => append_rollback_refused(out, w, mark, refusal_number(x)),
+        RollbackAnswer::Refused(x) => {
+            let f = refusal_fields(x);
+            append_rollback_refused(out, w, mark, f.number)
+        }
         RollbackAnswer::BadTables => append_rollback_refused(out, w, mark, 0),
     }
 }

@@ -2,5 +2,6 @@
 mod answers;
 mod entries;
 pub mod print;
+pub mod refusals;
 mod reply;
 pub mod requests;

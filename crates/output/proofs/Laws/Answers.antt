@@ -1,16 +1,18 @@
 -- Laws of lines whose fields are written in turn, each with the comma or LF behind it. Assumes nothing.
 use mathlib.Core.List.{List, [], _∷_, _++_, append-assoc}
-use mathlib.Core.Path.{_≡_, refl}
+use mathlib.Core.Path.{_≡_, refl, ap}
 use Prim.Native.Nat.{ℕ}
 use Rattle.tables.specs.Bytes.{bytes}
-use Rattle.merge_rules.specs.Program.{programRules, decimalOf, lineOf}
-use Rattle.merge_rules.specs.Refusals.{refusalNumber, refusalElement, refusalName}
+use Rattle.merge_rules.specs.Program.{decimalOf, orDash, lineOf}
+use Rattle.merge_rules.specs.Refusals.{Refusal}
 use Rattle.output.specs.Answers.{refusalFields}
+use Rattle.output.specs.Refusals.{RefusalFields, refusalFieldsOf, optionalIs, refusalFieldsIs}
+use Rattle.output.specs.declared.refusals.RefusalFields as program
 
--- names what a refusal's last three fields are made of on one `unfolding` line
-unfoldable pub refusalRules : Unit {0}
-unfolding programRules refusalNumber refusalElement refusalName refusalFields bytes
-refusalRules = tt
+pub refusal-text : (f : program.RefusalFields) (r : Refusal) → refusalFieldsIs f ≡ refusalFieldsOf r
+    → lineOf (decimalOf (f .number) ∷ orDash (optionalIs (f .element)) ∷ orDash (optionalIs (f .name)) ∷ []) ≡ refusalFields r
+unfolding refusalFields refusalFieldsOf
+refusal-text f r e = ap (λ (g : RefusalFields). lineOf (decimalOf (g .number) ∷ orDash (g .element) ∷ orDash (g .name) ∷ [])) e
 
 -- as for a refusal without element and name
 pub zero-fields : bytes "0,-,-\n" ≡ lineOf (bytes "0" ∷ bytes "-" ∷ bytes "-" ∷ [])

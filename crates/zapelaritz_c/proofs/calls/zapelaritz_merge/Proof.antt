@@ -1,0 +1,32 @@
+-- `calls::zapelaritz_merge` meets its contract. Assumes nothing.
+use Rattle.zapelaritz_c.specs.Numbers.{mergeNumbers}
+use Rattle.zapelaritz_c.specs.NumberedCalls.{numberedMerge}
+use Rattle.zapelaritz_c.proofs.Laws.Numbers.{stays, made, written, call-left}
+use borrow.Author.Needs.{needs}
+use Rattle.zapelaritz_c.proofs.calls.zapelaritz_merge.Statement.{statement}
+use Rattle.zapelaritz_c.proofs.calls.zapelaritz_merge.Tie as tie
+
+returns : tie.Need-returns
+unfolding numberedMerge
+returns c = stays (c .before .before .before .before .before .before .before .args .answer .now) _ _ (c .if1 .taken)
+
+returns-2 : tie.Need-returns-2
+unfolding numberedMerge
+returns-2 c =
+    let answer = c .before .before .before .before .before .before .before .before .before .before .before .before .before .before .before .before .before .before .before .args .answer .now in
+    let h = c .before .before .before .before .before .before .before .before .before .before .before .before .if1 .left in
+    let n = c .before .before .before .before .merge-numbers in
+    made answer h _ (call-left mergeNumbers (written answer h (n .result) (c .before .before .put3 .ensures) (n .ensures)) (c .before .before .before .before .before .before .before .before .before .merge .ensures))
+
+pub zapelaritz-merge-spec : {M : Type 1} → statement M
+zapelaritz-merge-spec =
+    tie.close
+    (tie.spec
+    returns
+    (λ c κs. search needs)
+    (λ c κs. search needs)
+    (λ c κs. search needs)
+    (λ c. search needs)
+    (λ c. search needs)
+    (λ c. search needs)
+    returns-2)

@@ -1,0 +1,2 @@
+pub mod NumberedCalls
+pub mod Numbers

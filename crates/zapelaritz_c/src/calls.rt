@@ -1,0 +1,118 @@
+// Load, merge, range and rollback: the answer's code is the result, its numbers are written into the lent answer.
+use crate::numbers::NOT_MADE;
+use crate::numbers::load_numbers;
+use crate::numbers::mark_numbers;
+use crate::numbers::merge_numbers;
+use crate::numbers::range_numbers;
+use crate::numbers::rollback_numbers;
+use crate::sizes::ANSWER_SIZE;
+use load::load::load;
+use merge::calls::merge;
+use merge::calls::range;
+use merge::calls::rollback;
+use tables::cells::put3;
+ghost use mathlib.Core.Path.{_≡_};
+ghost use Rattle.load.specs.LoadCall.{tablesOf};
+ghost use Rattle.zapelaritz_c.specs.Numbers.{numbered};
+ghost use Rattle.zapelaritz_c.specs.NumberedCalls.{numberedLoad, numberedMerge, numberedRange, numberedRollback, numberedMark};
+
+#[no_mangle]
+pub extern "C" fn zapelaritz_load(
+    deck: &[u8],
+    schema: &mut [u64],
+    elements: &mut [u64],
+    model: &mut [u64],
+    log: &mut [u64],
+    answer: &mut [u64],
+) -> u64
+    ensures { λ r. ⌜ record { answer = numbered r (now (answer .exit)); tables = tablesOf (now (schema .exit)) (now (elements .exit)) (now (model .exit)) (now (log .exit)) } ≡ numberedLoad (now (deck .entry)) (tablesOf (now (schema .entry)) (now (elements .entry)) (now (model .entry)) (now (log .entry))) (now (answer .entry)) ⌝ }
+{
+    if answer.len() != ANSWER_SIZE {
+        return NOT_MADE;
+    }
+    let n = load_numbers(load(deck, schema, elements, model, log));
+    put3(answer, 0, n.first, n.second, n.third);
+    n.code
+}
+
+#[no_mangle]
+pub extern "C" fn zapelaritz_merge(
+    deck: &[u8],
+    schema: &[u64],
+    elements: &[u64],
+    model: &mut [u64],
+    log: &mut [u64],
+    file: u64,
+    answer: &mut [u64],
+) -> u64
+    ensures { λ r. ⌜ record { answer = numbered r (now (answer .exit)); model = now (model .exit); log = now (log .exit) } ≡ numberedMerge (now (deck .entry)) (now (schema .entry)) (now (elements .entry)) (now (model .entry)) (now (log .entry)) file (now (answer .entry)) ⌝ }
+{
+    if answer.len() != ANSWER_SIZE {
+        return NOT_MADE;
+    }
+    let n = merge_numbers(merge(deck, schema, elements, model, log, file));
+    put3(answer, 0, n.first, n.second, n.third);
+    n.code
+}
+
+#[no_mangle]
+pub extern "C" fn zapelaritz_rollback(
+    deck: &[u8],
+    schema: &[u64],
+    elements: &[u64],
+    model: &mut [u64],
+    log: &mut [u64],
+    mark: u64,
+    answer: &mut [u64],
+) -> u64
+    ensures { λ r. ⌜ record { answer = numbered r (now (answer .exit)); model = now (model .exit); log = now (log .exit) } ≡ numberedRollback (now (deck .entry)) (now (schema .entry)) (now (elements .entry)) (now (model .entry)) (now (log .entry)) mark (now (answer .entry)) ⌝ }
+{
+    if answer.len() != ANSWER_SIZE {
+        return NOT_MADE;
+    }
+    let n = rollback_numbers(rollback(deck, schema, elements, model, log, mark));
+    put3(answer, 0, n.first, n.second, n.third);
+    n.code
+}
+
+#[no_mangle]
+pub extern "C" fn zapelaritz_range(
+    deck: &[u8],
+    schema: &[u64],
+    elements: &[u64],
+    model: &[u64],
+    log: &[u64],
+    element: u64,
+    name: u64,
+    version: u64,
+    answer: &mut [u64],
+) -> u64
+    ensures { λ r. ⌜ numbered r (now (answer .exit)) ≡ numberedRange (now (deck .entry)) (now (schema .entry)) (now (elements .entry)) (now (model .entry)) (now (log .entry)) element name version (now (answer .entry)) ⌝ }
+{
+    if answer.len() != ANSWER_SIZE {
+        return NOT_MADE;
+    }
+    let n = range_numbers(range(deck, schema, elements, model, log, element, name, version));
+    put3(answer, 0, n.first, n.second, n.third);
+    n.code
+}
+
+// The mark of now: the log's length.
+#[no_mangle]
+pub extern "C" fn zapelaritz_mark(
+    deck: &[u8],
+    schema: &[u64],
+    elements: &[u64],
+    model: &[u64],
+    log: &[u64],
+    answer: &mut [u64],
+) -> u64
+    ensures { λ r. ⌜ numbered r (now (answer .exit)) ≡ numberedMark (now (deck .entry)) (now (schema .entry)) (now (elements .entry)) (now (model .entry)) (now (log .entry)) (now (answer .entry)) ⌝ }
+{
+    if answer.len() != ANSWER_SIZE {
+        return NOT_MADE;
+    }
+    let n = mark_numbers(deck, schema, elements, model, log);
+    put3(answer, 0, n.first, n.second, n.third);
+    n.code
+}
