@@ -142,7 +142,7 @@ pub fn import_new_items(
     elements: &[u64],
     model: &mut [u64],
     log: &mut [u64],
-    work: &[u64],
+    work: &[u16],
     na: usize,
     ni: usize,
     f: FileNumber,

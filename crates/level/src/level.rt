@@ -69,7 +69,7 @@ fn restrict_new(model: &mut [u64], log: &mut [u64], a: Element, files: FileSet) 
 fn restrict_elements(
     model: &mut [u64],
     log: &mut [u64],
-    work: &[u64],
+    work: &[u16],
     na: usize,
     files: FileSet,
 ) -> Outcome
@@ -103,7 +103,7 @@ fn apply_plan(
     elements: &[u64],
     model: &mut [u64],
     log: &mut [u64],
-    work: &[u64],
+    work: &[u16],
     na: usize,
     ni: usize,
     f: FileNumber,
@@ -136,7 +136,7 @@ pub fn merge_element(
     elements: &[u64],
     model: &mut [u64],
     log: &mut [u64],
-    work: &mut [u64],
+    work: &mut [u16],
     f: FileNumber,
     version: u64,
     files: FileSet,
@@ -211,7 +211,7 @@ fn merge_apart(
     ensures { λ r. ⌜ outcomeIs r (stateIn (now (model .exit)) (now (log .exit))) ≡ mergeElement (suc depth) (fixedIn (now (deck .entry)) (now (schema .entry)) (now (elements .entry))) (f .0) (setIs files) (a .0) (b .0) (stateIn (now (model .entry)) (now (log .entry))) ⌝ }
     ensures { λ _. ⌜ KeepsState (now (model .entry)) (now (log .entry)) (now (model .exit)) (now (log .exit)) ⌝ }
 {
-    let mut work = [0u64; WORK_SIZE];
+    let mut work = [0u16; WORK_SIZE];
     merge_level(
         deck,
         schema,
@@ -235,7 +235,7 @@ fn merge_level(
     elements: &[u64],
     model: &mut [u64],
     log: &mut [u64],
-    work: &mut [u64],
+    work: &mut [u16],
     f: FileNumber,
     version: u64,
     files: FileSet,
@@ -301,7 +301,7 @@ fn merge_sub_elements(
     elements: &[u64],
     model: &mut [u64],
     log: &mut [u64],
-    work: &mut [u64],
+    work: &mut [u16],
     na: usize,
     f: FileNumber,
     version: u64,

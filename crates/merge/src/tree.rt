@@ -91,7 +91,7 @@ pub fn merge_tree(
     ensures { λ r. ⌜ outcomeIs r (stateIn (now (model .exit)) (now (log .exit))) ≡ mergeTree (fixedIn (now (deck .entry)) (now (schema .entry)) (now (elements .entry))) (record { file = f .0; root = b .0 }) (stateIn (now (model .entry)) (now (log .entry))) ⌝ }
     ensures { λ _. ⌜ KeepsState (now (model .entry)) (now (log .entry)) (now (model .exit)) (now (log .exit)) ⌝ }
 {
-    let mut work = [0u64; WORK_SIZE];
+    let mut work = [0u16; WORK_SIZE];
     let version = version_of(schema, f);
     let files = set_of(model, ROOT);
     let r = merge_element(

@@ -110,7 +110,7 @@ fn calc_identifiables_merge(
     elements: &[u64],
     model: &[u64],
     splittable: bool,
-    second: &[u64],
+    second: &[u16],
     a: Element,
     b: Element,
 ) -> Action
@@ -144,7 +144,7 @@ fn calc_element_merge(
     schema: &[u64],
     elements: &[u64],
     model: &[u64],
-    second: &[u64],
+    second: &[u16],
     a: Element,
     b: Element,
 ) -> Action
@@ -178,7 +178,7 @@ pub fn action_of(
     model: &[u64],
     t: TypeNumber,
     splittable: bool,
-    second: &[u64],
+    second: &[u16],
     a: Element,
     b: Element,
 ) -> Action

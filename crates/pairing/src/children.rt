@@ -14,7 +14,7 @@ use tables::model::list_length;
 use tables::numbers::Element;
 
 // The numbers of the element's children, one behind the other.
-pub fn copy_children(model: &[u64], e: Element, part: &mut [u64]) -> usize
+pub fn copy_children(model: &[u64], e: Element, part: &mut [u16]) -> usize
     requires { ⌜ GoodModel (now model) ⌝ }
     requires { ⌜ e .0 < countOf (modelOf (now model)) ⌝ }
     requires { ⌜ length (listOf (modelOf (now model)) (e .0)) ≤ length (now part) ⌝ }
@@ -30,14 +30,14 @@ pub fn copy_children(model: &[u64], e: Element, part: &mut [u64]) -> usize
             continue;
         };
         let number = x.0;
-        part[k] = number as u64;
+        part[k] = number as u16;
         k += 1;
     }
     k
 }
 
 // A row for each of the element's children: its number, and no mate.
-pub fn copy_rows(model: &[u64], e: Element, work: &mut [u64]) -> usize
+pub fn copy_rows(model: &[u64], e: Element, work: &mut [u16]) -> usize
     requires { ⌜ GoodModel (now model) ⌝ }
     requires { ⌜ e .0 < countOf (modelOf (now model)) ⌝ }
     requires { ⌜ 2 * length (listOf (modelOf (now model)) (e .0)) ≤ length (now work) ⌝ }
@@ -55,7 +55,7 @@ pub fn copy_rows(model: &[u64], e: Element, work: &mut [u64]) -> usize
         let number = x.0;
         let at = 2 * k;
         let mate = at + 1;
-        work[at] = number as u64;
+        work[at] = number as u16;
         work[mate] = 0;
         k += 1;
     }
@@ -63,7 +63,7 @@ pub fn copy_rows(model: &[u64], e: Element, work: &mut [u64]) -> usize
 }
 
 // The children of a in rows, and the numbers of b's children behind the room for a row of each of b's items.
-pub fn copy_sides(model: &[u64], a: Element, b: Element, work: &mut [u64]) -> Sides
+pub fn copy_sides(model: &[u64], a: Element, b: Element, work: &mut [u16]) -> Sides
     requires { ⌜ GoodModel (now model) ⌝ }
     requires { ⌜ a .0 < countOf (modelOf (now model)) ⌝ }
     requires { ⌜ b .0 < countOf (modelOf (now model)) ⌝ }

@@ -3,8 +3,9 @@
 use crate::action::Action;
 use tables::numbers::Element;
 ghost use mathlib.Core.Path.{_≡_};
-ghost use Prim.Native.Nat.{ℕ, _+_, _-_, _*_, _<_};
+ghost use Prim.Native.Nat.{ℕ, _+_, _-_, _*_, _<_, _≤_};
 ghost use lib.ListN.{length, getD, set};
+ghost use Rattle.tables.specs.Limits.{elementLimit, itemLimit};
 ghost use Rattle.merge_rules.specs.Pairing.{firstUsedTwice};
 ghost use Rattle.pairing.specs.Plans.{planUpTo, planIn, plannedIs, orUsedTwice, RowsIn, PlanIn};
 ghost use Rattle.pairing.specs.Walks.{secondChildren, StepIn, WorkRoom, Counted, Advances, Imports, Finishes};
@@ -40,21 +41,22 @@ fn count_use(uses: &mut [u16], e: usize)
 }
 
 // The child of A in row i is paired with e.
-fn pair_row(work: &mut [u64], pairs: &mut [u16], i: usize, e: usize)
+fn pair_row(work: &mut [u16], pairs: &mut [u16], i: usize, e: usize)
     requires { ⌜ 2 * i + 1 < length (now work) ⌝ }
+    requires { ⌜ e < elementLimit ⌝ }
     requires { ⌜ e < length (now pairs) ⌝ }
     requires { ⌜ getD (now pairs) e 0 < 65535 ⌝ }
     ensures { λ _. ⌜ now (work .exit) ≡ set (now (work .entry)) (2 * i + 1) (e + 1) ⌝ }
     ensures { λ _. ⌜ now (pairs .exit) ≡ set (now (pairs .entry)) e (getD (now (pairs .entry)) e 0 + 1) ⌝ }
 {
     let at = 2 * i + 1;
-    work[at] = e as u64 + 1;
+    work[at] = e as u16 + 1;
     count_use(pairs, e);
 }
 
 // B-only: the cursor child of B at this position, unless it is already paired. Gives the length of the B-only list.
 fn import_next(
-    work: &mut [u64],
+    work: &mut [u16],
     pairs: &[u16],
     imports: &mut [u16],
     s: Sides,
@@ -64,6 +66,7 @@ fn import_next(
     requires { ⌜ WorkRoom s (now work) (c .a) (c .b) (c .new) ⌝ }
     requires { ⌜ Counted (planUpTo (s .rows) (c .a) (c .new) (now work)) (now pairs) (now imports) ⌝ }
     requires { ⌜ s .start + c .b < s .end ⌝ }
+    requires { ⌜ position ≤ itemLimit ⌝ }
     ensures { λ r. ⌜ Imports s position (now (work .entry)) c (now (work .exit)) (now (pairs .entry)) (now (imports .exit)) r ⌝ }
 {
     let at = s.start + c.b;
@@ -74,15 +77,15 @@ fn import_next(
     }
     let row = 2 * (s.rows + k);
     let second = row + 1;
-    work[row] = e as u64;
-    work[second] = position as u64;
+    work[row] = e as u16;
+    work[second] = position as u16;
     count_use(imports, e);
     k + 1
 }
 
 // One step of the walk.
 pub fn advance(
-    work: &mut [u64],
+    work: &mut [u16],
     pairs: &mut [u16],
     imports: &mut [u16],
     s: Sides,
@@ -136,7 +139,7 @@ pub fn advance(
 
 // Left-over B at this position. Gives the length of the B-only list.
 pub fn import_rest(
-    work: &mut [u64],
+    work: &mut [u16],
     pairs: &[u16],
     imports: &mut [u16],
     s: Sides,
@@ -146,6 +149,7 @@ pub fn import_rest(
     requires { ⌜ WorkRoom s (now work) (c .a) (c .b) (c .new) ⌝ }
     requires { ⌜ Counted (planUpTo (s .rows) (c .a) (c .new) (now work)) (now pairs) (now imports) ⌝ }
     requires { ⌜ c .a ≡ s .rows ⌝ }
+    requires { ⌜ position ≤ itemLimit ⌝ }
     ensures { λ r. ⌜ Finishes s position (now (work .entry)) c (now (work .exit)) (now (pairs .entry)) (now (imports .exit)) r ⌝ }
 {
     let a = c.a;
@@ -160,7 +164,7 @@ pub fn import_rest(
 }
 
 // The plan, or the first child of B that it uses twice.
-pub fn used_twice(work: &[u64], pairs: &[u16], imports: &[u16], s: Sides, new: usize) -> Planned
+pub fn used_twice(work: &[u16], pairs: &[u16], imports: &[u16], s: Sides, new: usize) -> Planned
     requires { ⌜ WorkRoom s (now work) (s .rows) (s .end - s .start) new ⌝ }
     requires { ⌜ Counted (planIn (s .rows) new (now work)) (now pairs) (now imports) ⌝ }
     ensures { λ r. ⌜ plannedIs r (now (work .entry)) ≡ orUsedTwice (planIn (s .rows) new (now (work .entry))) (firstUsedTwice (planIn (s .rows) new (now (work .entry))) (secondChildren s (now (work .entry)))) ⌝ }

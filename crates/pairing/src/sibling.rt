@@ -97,7 +97,7 @@ pub fn sibling(
     elements: &[u64],
     model: &[u64],
     by_name: bool,
-    second: &[u64],
+    second: &[u16],
     a: Element,
     key: Key,
 ) -> Child

@@ -37,7 +37,7 @@ fn next_action(
     model: &[u64],
     t: TypeNumber,
     splittable: bool,
-    work: &[u64],
+    work: &[u16],
     s: Sides,
     c: Cursors,
 ) -> Action
@@ -79,7 +79,7 @@ fn walk(
     model: &[u64],
     t: TypeNumber,
     splittable: bool,
-    work: &mut [u64],
+    work: &mut [u16],
     s: Sides,
     end: usize,
 ) -> Planned
@@ -115,7 +115,7 @@ pub fn plan_level(
     v: u64,
     a: Element,
     b: Element,
-    work: &mut [u64],
+    work: &mut [u16],
 ) -> Planned
     requires { ⌜ GoodFixed (now deck) (now schema) (now elements) ⌝ }
     requires { ⌜ ModelOver (now elements) (now model) ⌝ }

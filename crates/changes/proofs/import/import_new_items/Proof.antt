@@ -1,5 +1,5 @@
 use native.Mathlib.Omega.{arith}
-use Prim.Native.Nat.{_+_, _-_}
+use Prim.Native.Nat.{_+_, _-_, _*_}
 use mathlib.Core.Path.{refl}
 use Rattle.changes.proofs.Laws.Imports.{ImportsLeft, imports-start, imports-end, imports-stop, imports-more}
 use borrow.Author.Needs.{needs}
@@ -16,6 +16,12 @@ loop-holds : tie.Need-loop-holds Inv-loop μ-loop
 loop-holds c =
     let s = c .before .before .before .before .before in
     imports-start (s .args .schema .now) (s .args .elements .now) (s .args .work .now) (s .args .na) (s .args .ni) (s .args .f .0) (s .args .v) (s .args .p .0) (s .args .model .now) (s .args .log .now) (s .pre .1 .1 .1 .0) (s .pre .1 .1 .1 .1 .0)
+
+cast-wanted : tie.Need-cast-wanted Inv-loop μ-loop
+cast-wanted c = omega (arith, c .shared-slice-known4 .given (2 * (c .before .before .before .before .before .before .before .before .args .na + c .before .before .loop .i)))
+
+cast-wanted-2 : tie.Need-cast-wanted-2 Inv-loop μ-loop
+cast-wanted-2 c = omega (arith, c .shared-slice-known5 .given (2 * (c .before .before .before .before .before .before .before .before .before .args .na + c .before .before .before .loop .i) + 1))
 
 add-wanted-2 : tie.Need-add-wanted-2 Inv-loop μ-loop
 add-wanted-2 c =
@@ -66,9 +72,11 @@ import-new-items-spec =
     (λ c. search needs)
     (λ c. search needs)
     (λ c. search needs)
+    cast-wanted
     (λ c. search needs)
     (λ c. search needs)
     (λ c. search needs)
+    cast-wanted-2
     add-wanted-2
     import-single-item-requires
     (λ c. search needs)

@@ -250,6 +250,12 @@ merge-sub-elements-slice-read-merge-element t c =
     let l = c .before .before .before .before .loop in
     omega (arith, l .inv .size, s .pre .1 .1 .1 .1 .1 .1 .1 .room)
 
+merge-sub-elements-cast-merge-element : (t : ℕ) → merge-sub-elements-lts.Need-cast-merge-element (merge-sub-elements-has t) (merge-sub-elements-at t) merge-sub-elements.Post merge-sub-elements-Inv-loop merge-sub-elements-μ-loop
+merge-sub-elements-cast-merge-element t c = omega (arith, c .slice-known5 .given (2 * c .before .before .before .before .loop .i))
+
+merge-sub-elements-cast-merge-element-2 : (t : ℕ) → merge-sub-elements-lts.Need-cast-merge-element-2 (merge-sub-elements-has t) (merge-sub-elements-at t) merge-sub-elements.Post merge-sub-elements-Inv-loop merge-sub-elements-μ-loop
+merge-sub-elements-cast-merge-element-2 t c = omega (arith, c .before .before .slice-known4 .given (2 * c .before .before .before .before .loop .i + 1))
+
 merge-sub-elements-files-of-pair-requires : (t : ℕ) → merge-sub-elements-lts.Need-files-of-pair-requires (merge-sub-elements-has t) (merge-sub-elements-at t) merge-sub-elements.Post merge-sub-elements-Inv-loop merge-sub-elements-μ-loop
 merge-sub-elements-files-of-pair-requires t c κs =
     let s = c .before .before .before .before .before .before .before .before .before .before .before .before in
@@ -348,4 +354,4 @@ pub +merge-apart+merge-element+merge-level+merge-sub-elements-spec : {M : Type 1
     (λ t. merge-apart-lts.spec (merge-apart-has t) (merge-apart-at t) merge-apart.Post (λ c. search needs) (merge-apart-merge-level-requires t) (λ c. search needs) (λ c. search needs) (merge-apart-returns t))
     (λ t. merge-element-lts.spec (merge-element-has t) (merge-element-at t) merge-element.Post (merge-element-returns t) (merge-element-level-room-requires t) (λ c. search needs) (merge-element-merge-level-requires t) (λ c. search needs) (λ c. search needs) (λ c. search needs) (merge-element-returns-2 t) (λ c. search needs) (merge-element-merge-apart-requires t) (λ c. search needs) (λ c. search needs) (merge-element-returns-3 t))
     (λ t. merge-level-lts.spec (merge-level-has t) (merge-level-at t) merge-level.Post (merge-level-least-version-requires t) (merge-level-plan-level-requires t) (λ c. search needs) (merge-level-apply-plan-requires t) (λ c. search needs) (merge-level-merge-sub-elements-requires t) (λ c. search needs) (λ c. search needs) (λ c. search needs) (merge-level-returns t) (λ c. search needs) (λ c. search needs) (λ c. search needs) (λ c. search needs) (λ c. search needs) (merge-level-returns-2 t) (λ c. search needs) (λ c. search needs) (merge-level-returns-3 t) (λ c. search needs) (λ c. search needs) (merge-level-returns-4 t))
-    (λ t. merge-sub-elements-lts.spec (merge-sub-elements-has t) (merge-sub-elements-at t) merge-sub-elements.Post merge-sub-elements-Inv-loop merge-sub-elements-μ-loop (merge-sub-elements-mul-rows t) (merge-sub-elements-loop-holds t) (λ c. search needs) (λ c. search needs) (λ c. search needs) (merge-sub-elements-slice-read-mate t) (λ c. search needs) (λ c. search needs) (merge-sub-elements-loop-again t) (λ c. search needs) (merge-sub-elements-slice-read-merge-element t) (λ c. search needs) (merge-sub-elements-files-of-pair-requires t) (merge-sub-elements-log-length-requires t) (λ c. search needs) (λ c. search needs) (merge-sub-elements-part-merge-element-start t) (λ c. search needs) (merge-sub-elements-merge-element-requires t) (merge-sub-elements-settle-requires t) (λ c. search needs) (merge-sub-elements-add-i-2 t) (merge-sub-elements-loop-less-2 t) (merge-sub-elements-loop-again-2 t) (merge-sub-elements-same-length t) (merge-sub-elements-same-length-2 t) (merge-sub-elements-same-length-3 t) (merge-sub-elements-returns t) (λ c. search needs) (λ c. search needs) (λ c. search needs) (merge-sub-elements-returns-2 t))
+    (λ t. merge-sub-elements-lts.spec (merge-sub-elements-has t) (merge-sub-elements-at t) merge-sub-elements.Post merge-sub-elements-Inv-loop merge-sub-elements-μ-loop (merge-sub-elements-mul-rows t) (merge-sub-elements-loop-holds t) (λ c. search needs) (λ c. search needs) (λ c. search needs) (merge-sub-elements-slice-read-mate t) (λ c. search needs) (λ c. search needs) (merge-sub-elements-loop-again t) (λ c. search needs) (merge-sub-elements-slice-read-merge-element t) (merge-sub-elements-cast-merge-element t) (λ c. search needs) (merge-sub-elements-cast-merge-element-2 t) (merge-sub-elements-files-of-pair-requires t) (merge-sub-elements-log-length-requires t) (λ c. search needs) (λ c. search needs) (merge-sub-elements-part-merge-element-start t) (λ c. search needs) (merge-sub-elements-merge-element-requires t) (merge-sub-elements-settle-requires t) (λ c. search needs) (merge-sub-elements-add-i-2 t) (merge-sub-elements-loop-less-2 t) (merge-sub-elements-loop-again-2 t) (merge-sub-elements-same-length t) (merge-sub-elements-same-length-2 t) (merge-sub-elements-same-length-3 t) (merge-sub-elements-returns t) (λ c. search needs) (λ c. search needs) (λ c. search needs) (merge-sub-elements-returns-2 t))

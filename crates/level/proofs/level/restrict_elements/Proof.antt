@@ -1,4 +1,5 @@
-use Prim.Native.Nat.{_-_}
+use Prim.Native.Nat.{_-_, _*_}
+use native.Mathlib.Omega.{arith}
 use Rattle.tables.specs.SetCells.{setIs}
 use Rattle.level.proofs.Laws.Restrictions.{RestrictsLeft, restricts-start, restricts-end, restricts-element, restricts-skip, restricts-stop, restricts-more}
 use borrow.Author.Needs.{needs}
@@ -21,6 +22,9 @@ loop-again c =
     let s = c .before .before .before .before .before .before .before in
     let l = c .before .before .before .loop in
     restricts-skip (s .args .work .now) (s .args .na) (setIs (s .args .files)) (s .args .model .now) (s .args .log .now) (l .model) (l .log) (l .i) (l .inv) (c .before .before .loop-test .taken) (c .if1 .taken)
+
+cast-t12 : tie.Need-cast-t12 Inv-loop μ-loop
+cast-t12 c = omega (arith, c .shared-slice-known3 .given (2 * c .before .before .before .before .loop .i))
 
 restrict-new-requires : tie.Need-restrict-new-requires Inv-loop μ-loop
 restrict-new-requires c κs =
@@ -49,4 +53,4 @@ returns-2 c =
     (restricts-end (s .args .work .now) (s .args .na) (setIs (s .args .files)) (s .args .model .now) (s .args .log .now) (l .model) (l .log) (l .i) (l .inv) (c .loop-test .left), l .inv .keeps)
 
 pub restrict-elements-spec : {M : Type 1} → statement M
-restrict-elements-spec = tie.close (tie.spec Inv-loop μ-loop loop-holds (λ c. search needs) (λ c. search needs) (λ c. search needs) (λ c. search needs) (λ c. search needs) (λ c. search needs) loop-again (λ c. search needs) (λ c. search needs) restrict-new-requires (λ c. search needs) (λ c. search needs) (λ c. search needs) loop-again-2 (λ c. search needs) (λ c. search needs) returns (λ c. search needs) (λ c. search needs) returns-2)
+restrict-elements-spec = tie.close (tie.spec Inv-loop μ-loop loop-holds (λ c. search needs) (λ c. search needs) (λ c. search needs) (λ c. search needs) (λ c. search needs) (λ c. search needs) loop-again (λ c. search needs) (λ c. search needs) cast-t12 restrict-new-requires (λ c. search needs) (λ c. search needs) (λ c. search needs) loop-again-2 (λ c. search needs) (λ c. search needs) returns (λ c. search needs) (λ c. search needs) returns-2)

@@ -8,7 +8,7 @@ use Rattle.tables.specs.Records.{listOf}
 use Rattle.tables.specs.ModelTable.{modelOf}
 use Rattle.merge_rules.specs.Pairing.{children}
 use Rattle.pairing.specs.Plans.{Copied}
-use Rattle.pairing.proofs.Laws.Children.{children-text, children-child, children-all, copied-none, copied-more}
+use Rattle.pairing.proofs.Laws.Children.{children-text, children-child, children-all, item-small, copied-none, copied-more}
 use Rattle.pairing.proofs.children.copy_children.Statement.{statement}
 use Rattle.pairing.proofs.children.copy_children.Tie as tie
 use Rattle.pairing.proofs.children.copy_children.Reads as reads
@@ -33,6 +33,13 @@ loop-again c =
       l .inv .1,
       rw (children-text (listOf (modelOf (a .model .now)) (a .e .0)) (l .i) (c .before .before .item-at .result) (omega (arith, h, c .before .before .before .before .before .list-length .ensures)) (c .before .before .item-at .ensures) _ (c .enum-told .given .1)) (l .inv .2),
     )
+
+cast-part : tie.Need-cast-part Inv-loop μ-loop
+cast-part c =
+    let a = c .before .before .before .before .before .before .before .before .before .args in
+    let l = c .before .before .before .before .before .loop in
+    let h : l .i < length (listOf (modelOf (a .model .now)) (a .e .0)) = omega (arith, c .before .before .before .before .loop-test .taken, c .before .before .before .before .before .before .list-length .ensures) in
+    omega (arith, item-small (a .model .now) (c .before .before .before .before .before .before .before .before .before .pre .0) (a .e .0) (l .i) (c .before .before .before .item-at .result) h (c .before .before .before .item-at .ensures) (c .before .a .given .0 .0) (c .before .a .given .1))
 
 loop-again-2 : tie.Need-loop-again-2 Inv-loop μ-loop
 loop-again-2 c =
@@ -66,6 +73,7 @@ copy-children-spec =
     (λ c. search needs)
     (λ c. search needs)
     loop-again
+    cast-part
     (λ c. search needs)
     (λ c. search needs)
     (λ c. search needs)

@@ -7,7 +7,7 @@ use Rattle.tables.specs.Records.{listOf}
 use Rattle.tables.specs.ModelTable.{modelOf}
 use Rattle.merge_rules.specs.Pairing.{children}
 use Rattle.pairing.specs.Plans.{CopiedRows}
-use Rattle.pairing.proofs.Laws.Children.{children-text, children-child, children-all, rows-none, rows-more}
+use Rattle.pairing.proofs.Laws.Children.{children-text, children-child, children-all, item-small, rows-none, rows-more}
 use borrow.Author.Needs.{needs}
 use Rattle.pairing.proofs.children.copy_rows.Statement.{statement}
 use Rattle.pairing.proofs.children.copy_rows.Tie as tie
@@ -35,6 +35,13 @@ loop-again c =
       l .inv .1,
       rw (children-text (listOf (modelOf (a .model .now)) (a .e .0)) (l .i) (c .before .before .item-at .result) (omega (arith, h, c .before .before .before .before .before .list-length .ensures)) (c .before .before .item-at .ensures) _ (c .enum-told .given .1)) (l .inv .2),
     )
+
+cast-work : tie.Need-cast-work Inv-loop μ-loop
+cast-work c =
+    let a = c .before .before .before .before .before .before .before .before .before .args in
+    let l = c .before .before .before .before .before .loop in
+    let h : l .i < length (listOf (modelOf (a .model .now)) (a .e .0)) = omega (arith, c .before .before .before .before .loop-test .taken, c .before .before .before .before .before .before .list-length .ensures) in
+    omega (arith, item-small (a .model .now) (c .before .before .before .before .before .before .before .before .before .pre .0) (a .e .0) (l .i) (c .before .before .before .item-at .result) h (c .before .before .before .item-at .ensures) (c .before .a .given .0 .0) (c .before .a .given .1))
 
 slice-write-work-2 : tie.Need-slice-write-work-2 Inv-loop μ-loop
 slice-write-work-2 c = let l = c .before .before .before .before .before .loop in simp length-set (omega (arith, l .inv .0, l .inv .1, c .before .before .before .before .loop-test .taken, c .before .before .before .before .before .before .list-length .ensures, c .before .before .before .before .before .before .before .before .before .pre .1 .1))
@@ -73,6 +80,7 @@ copy-rows-spec =
     loop-again
     (λ c. search needs)
     (λ c. search needs)
+    cast-work
     (λ c. search needs)
     (λ c. search needs)
     (λ c. search needs)

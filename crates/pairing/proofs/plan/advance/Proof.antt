@@ -1,5 +1,6 @@
 -- `merge::plan::advance` meets its contract. Assumes nothing.
 use mathlib.Core.Path.{_≡_, refl}
+use Prim.Native.Nat.{_+_}
 use native.Mathlib.Omega.{arith}
 use Rattle.pairing.proofs.Laws.Steps.{few-paired, child-small, step-equal, step-unequal, step-second, step-never, walks-second}
 use Rattle.pairing.proofs.Laws.Ways.{walks-equal, walks-unequal, walks-first}
@@ -25,6 +26,11 @@ slice-read-e c =
     let l = step-equal s j (a .act) step (c .before .before .before .enum-told .given .1) in
     omega (arith, l, room .within)
 
+cast-e : tie.Need-cast-e
+cast-e c =
+    let a = c .before .before .before .before .before .before .before .before .args in
+    omega (arith, c .slice-known4 .given (a .s .start + a .c .b))
+
 pair-row-requires : tie.Need-pair-row-requires
 pair-row-requires c κs =
     let a = c .before .before .before .before .before .before .before .before .before .before .args in
@@ -38,7 +44,7 @@ pair-row-requires c κs =
     let step = c .before .before .before .before .before .before .before .before .before .before .pre .1 .1 .1 in
     let l = step-equal s j (a .act) step (c .before .before .before .before .before .enum-told .given .1) in
     let small = child-small s (a .work .now) i j k j room l in
-    (omega (arith, h, room .behind, room .within, l), (omega (arith, small, counted .pairSize), omega (arith, few-paired s (a .work .now) (a .pairs .now) (a .imports .now) i j k room counted _ small)))
+    (omega (arith, h, room .behind, room .within, l), (small, (omega (arith, small, counted .pairSize), omega (arith, few-paired s (a .work .now) (a .pairs .now) (a .imports .now) i j k room counted _ small))))
 
 pair-row-requires-2 : tie.Need-pair-row-requires-2
 pair-row-requires-2 c κs =
@@ -52,7 +58,7 @@ pair-row-requires-2 c κs =
     let h = c .before .before .before .before .before .before .before .before .pre .1 .1 .0 in
     let step = c .before .before .before .before .before .before .before .before .pre .1 .1 .1 in
     let small = step-unequal s j (a .act) step _ (c .before .before .before .act .given .1) in
-    (omega (arith, h, room .behind, room .within, room .second), (omega (arith, small, counted .pairSize), omega (arith, few-paired s (a .work .now) (a .pairs .now) (a .imports .now) i j k room counted _ small)))
+    (omega (arith, h, room .behind, room .within, room .second), (small, (omega (arith, small, counted .pairSize), omega (arith, few-paired s (a .work .now) (a .pairs .now) (a .imports .now) i j k room counted _ small))))
 
 import-next-requires : tie.Need-import-next-requires
 import-next-requires c κs =
@@ -65,7 +71,7 @@ import-next-requires c κs =
     let counted = c .before .before .before .before .before .before .before .before .pre .1 .0 in
     let h = c .before .before .before .before .before .before .before .before .pre .1 .1 .0 in
     let step = c .before .before .before .before .before .before .before .before .pre .1 .1 .1 in
-    (room, (counted, step-second s j (a .act) step (c .before .before .before .enum-told3 .given .1)))
+    (room, (counted, (step-second s j (a .act) step (c .before .before .before .enum-told3 .given .1), omega (arith, room .first, room .fewFirst))))
 
 returns : tie.Need-returns
 returns c =
@@ -144,6 +150,7 @@ advance-spec =
     (λ c. search needs)
     (λ c. search needs)
     slice-read-e
+    cast-e
     pair-row-requires
     (λ c. search needs)
     (λ c. search needs)

@@ -38,7 +38,7 @@ import-next-requires : tie.Need-import-next-requires Inv-loop μ-loop
 import-next-requires c κs =
     let i = c .before .before .before .loop .inv .0 in
     let room = c .before .before .before .before .before .before .before .before .pre .0 in
-    (i .room, (i .counted, omega (arith, room .second, c .before .before .loop-test .taken)))
+    (i .room, (i .counted, (omega (arith, room .second, c .before .before .loop-test .taken), c .before .before .before .before .before .before .before .before .pre .1 .1 .1)))
 
 loop-again : tie.Need-loop-again Inv-loop μ-loop
 loop-again c =
@@ -46,7 +46,7 @@ loop-again c =
     let l = c .before .before .before .before .before .before .before .before .loop in
     let i = c .before .before .before .before .import-next in
     let room = c .before .before .before .before .before .before .before .before .before .before .before .before .before .pre .0 in (
-      walks-then (a .s) _ _ (a .work .now) (a .c .a) (a .c .b) (a .c .new) _ _ (l .work) (a .pairs .now) (l .imports) (a .c .a) (l .b) (l .new) (i .last .0) (a .pairs .now) (i .last .1 .1 .0) (a .c .a) _ (i .result) (l .inv .0) (i .ensures) (λ act end q. passes-left (a .s) (l .work) (a .c .a) (l .b) (l .new) (l .inv .0 .room) act end (a .position) (c .before .before .before .before .before .before .before .before .before .before .before .before .before .pre .1 .1) (omega (arith, room .second, c .before .before .before .before .before .before .before .loop-test .taken)) q) (λ n q. q),
+      walks-then (a .s) _ _ (a .work .now) (a .c .a) (a .c .b) (a .c .new) _ _ (l .work) (a .pairs .now) (l .imports) (a .c .a) (l .b) (l .new) (i .last .0) (a .pairs .now) (i .last .1 .1 .0) (a .c .a) _ (i .result) (l .inv .0) (i .ensures) (λ act end q. passes-left (a .s) (l .work) (a .c .a) (l .b) (l .new) (l .inv .0 .room) act end (a .position) (c .before .before .before .before .before .before .before .before .before .before .before .before .before .pre .1 .1 .0) (omega (arith, room .second, c .before .before .before .before .before .before .before .loop-test .taken)) q) (λ n q. q),
       i .kept .0 ∙ l .inv .1,
       i .kept .1 .1 .0 ∙ l .inv .2,
     )

@@ -29,6 +29,11 @@ loop-holds : tie.Need-loop-holds Inv-loop μ-loop
 unfolding firstUsedTwice
 loop-holds c = (omega arith, refl)
 
+cast-e : tie.Need-cast-e Inv-loop μ-loop
+cast-e c =
+    let a = c .before .before .before .before .before .args in
+    omega (arith, c .shared-slice-known .given (a .s .start + c .before .before .before .loop .j))
+
 mul-if1 : tie.Need-mul-if1 Inv-loop μ-loop
 mul-if1 c =
     let a = c .before .before .before .before .before .args in
@@ -131,6 +136,7 @@ used-twice-spec =
     (λ c. search needs)
     (λ c. search needs)
     (λ c. search needs)
+    cast-e
     mul-if1
     shared-slice-read-if1
     mul-if1-2

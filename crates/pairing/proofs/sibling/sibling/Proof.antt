@@ -2,6 +2,7 @@
 use mathlib.Core.Path.{_≡_, refl, _∙_}
 use Prim.Native.Nat.{_-_}
 use lib.ListN.{length, drop}
+use native.Mathlib.Omega.{arith}
 use Rattle.tables.specs.Lists.{firstOf}
 use Rattle.tables.specs.ModelTable.{modelOf}
 use Rattle.state_test.specs.StateTest.{fixedIn}
@@ -26,6 +27,9 @@ abbrev μ-siblings : tie.MeasureT-siblings
 
 siblings-holds : tie.Need-siblings-holds Inv-loop μ-loop Inv-siblings μ-siblings
 siblings-holds c = refl
+
+cast-t22 : tie.Need-cast-t22 Inv-loop μ-loop Inv-siblings μ-siblings
+cast-t22 c = omega (arith, c .shared-slice-known6 .given (c .before .before .siblings .k))
 
 candidate-at-requires : tie.Need-candidate-at-requires Inv-loop μ-loop Inv-siblings μ-siblings
 candidate-at-requires c κs =
@@ -94,6 +98,7 @@ sibling-spec =
     siblings-holds
     (λ c. search needs)
     (λ c. search needs)
+    cast-t22
     (λ c. search needs)
     candidate-at-requires
     (λ c. search needs)

@@ -1,5 +1,6 @@
 -- `merge::walk::next_action` meets its contract. Assumes nothing.
 use mathlib.Core.Path.{_≡_, sym}
+use Prim.Native.Nat.{_+_, _*_}
 use native.Mathlib.Omega.{arith}
 use Rattle.pairing.proofs.Laws.Steps.{child-ranged, next-at, next-past}
 use borrow.Author.Needs.{needs}
@@ -39,6 +40,11 @@ shared-slice-read-action-of c =
     let ranged = q .1 .1 .1 .1 .0 in
     omega (arith, q .1 .1 .1 .1 .1, ranged .rows .room)
 
+cast-action-of : tie.Need-cast-action-of
+cast-action-of c =
+    let a = c .before .before .before .before .before .before .before .before .before .args in
+    omega (arith, c .shared-slice-known6 .given (2 * a .c .a))
+
 shared-slice-read-action-of-2 : tie.Need-shared-slice-read-action-of-2
 shared-slice-read-action-of-2 c =
     let a = c .before .before .before .before .before .before .before .before .before .before .args in
@@ -48,6 +54,11 @@ shared-slice-read-action-of-2 c =
     let room = q .1 .1 .1 .0 in
     let ranged = q .1 .1 .1 .1 .0 in
     omega (arith, room .within, c .before .before .before .if1 .left)
+
+cast-action-of-2 : tie.Need-cast-action-of-2
+cast-action-of-2 c =
+    let a = c .before .before .before .before .before .before .before .before .before .before .args in
+    omega (arith, c .shared-slice-known7 .given (a .s .start + a .c .b))
 
 sub-action-of : tie.Need-sub-action-of
 sub-action-of c =
@@ -122,8 +133,10 @@ next-action-spec =
     mul-row
     (λ c. search needs)
     shared-slice-read-action-of
+    cast-action-of
     (λ c. search needs)
     shared-slice-read-action-of-2
+    cast-action-of-2
     (λ c. search needs)
     sub-action-of
     part-action-of-start

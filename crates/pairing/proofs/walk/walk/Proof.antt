@@ -94,7 +94,7 @@ import-rest-requires c κs =
     let q = c .before .before .before .before .before .before .before .before .before .before .before .before .pre in
     let s = a .s in
     let l = c .before .before .before .before .before .before .loop in
-    (l .inv .0 .room, (l .inv .0 .counted, omega (arith, l .inv .0 .room .first, c .before .before .before .if1 .left)))
+    (l .inv .0 .room, (l .inv .0 .counted, (omega (arith, l .inv .0 .room .first, c .before .before .before .if1 .left), q .1 .1 .1 .1 .1)))
 
 used-twice-requires : tie.Need-used-twice-requires Inv-loop μ-loop
 used-twice-requires c κs =
