@@ -1,0 +1,247 @@
+//! The declarations in Rust and in the C header are those of the Rattle source.
+
+mod common;
+
+use std::collections::BTreeMap;
+use std::fs;
+
+use common::{read, repository};
+
+/// Parameters in order, each as its name and type, and the result's type; types as Rust writes them.
+#[derive(Debug, PartialEq)]
+struct Signature {
+    parameters: Vec<(String, String)>,
+    result: String,
+}
+
+type Functions = BTreeMap<String, Signature>;
+
+const NAMES: [&str; 14] = [
+    "zapelaritz_answer_size",
+    "zapelaritz_deck_limit",
+    "zapelaritz_elements_size",
+    "zapelaritz_load",
+    "zapelaritz_log_size",
+    "zapelaritz_mark",
+    "zapelaritz_merge",
+    "zapelaritz_model_size",
+    "zapelaritz_print_calls",
+    "zapelaritz_print_model",
+    "zapelaritz_print_output",
+    "zapelaritz_range",
+    "zapelaritz_rollback",
+    "zapelaritz_schema_size",
+];
+
+fn text(path: &str) -> String {
+    String::from_utf8(read(path)).unwrap()
+}
+
+fn without_line_comments(text: &str) -> String {
+    text.lines()
+        .map(|line| line.split("//").next().unwrap_or_default())
+        .collect::<Vec<_>>()
+        .join("\n")
+}
+
+/// The Rattle source, each file without its comments.
+fn rattle_files() -> Vec<String> {
+    let folder = "crates/zapelaritz_c/src";
+    let mut files = Vec::new();
+    for entry in fs::read_dir(repository(folder)).unwrap() {
+        let name = entry.unwrap().file_name().into_string().unwrap();
+        assert!(name.ends_with(".rt"), "{name}");
+        files.push(without_line_comments(&text(&format!("{folder}/{name}"))));
+    }
+    assert!(!files.is_empty());
+    files
+}
+
+/// The text between the parenthesis that opens `text` and the one that closes it, and what follows.
+fn in_parentheses(text: &str) -> (&str, &str) {
+    let inner = text.strip_prefix('(').unwrap();
+    inner.split_once(')').unwrap()
+}
+
+fn parts(parameters: &str) -> impl Iterator<Item = &str> {
+    parameters
+        .split(',')
+        .map(str::trim)
+        .filter(|part| !part.is_empty())
+}
+
+fn insert(functions: &mut Functions, name: &str, parameters: Vec<(String, String)>, result: &str) {
+    let signature = Signature {
+        parameters,
+        result: result.to_string(),
+    };
+    let earlier = functions.insert(name.to_string(), signature);
+    assert_eq!(earlier, None, "{name} is declared twice");
+}
+
+/// What a parameter of Rattle passes: a slice is its pointer and its length.
+fn passed(parameter: &str) -> Vec<(String, String)> {
+    let (name, kind) = parameter.split_once(": ").unwrap();
+    let pointer = match kind {
+        "&[u8]" => "*const u8",
+        "&[u64]" => "*const u64",
+        "&mut [u8]" => "*mut u8",
+        "&mut [u64]" => "*mut u64",
+        "u64" | "usize" => return vec![(name.into(), kind.into())],
+        _ => panic!("{parameter}: not a type that passes"),
+    };
+    vec![
+        (name.into(), pointer.into()),
+        (format!("{name}_length"), "usize".into()),
+    ]
+}
+
+fn rattle() -> Functions {
+    let mut functions = Functions::new();
+    for file in rattle_files() {
+        let exported = "#[no_mangle]\npub extern \"C\" fn ";
+        assert_eq!(
+            file.matches("extern").count(),
+            file.matches(exported).count()
+        );
+        assert_eq!(
+            file.matches("no_mangle").count(),
+            file.matches(exported).count()
+        );
+        for function in file.split(exported).skip(1) {
+            let (name, rest) = function.split_at(function.find('(').unwrap());
+            let (parameters, rest) = in_parentheses(rest);
+            let parameters = parts(parameters).flat_map(passed).collect();
+            let result = rest.trim_start().strip_prefix("->").unwrap();
+            let result = result.split_whitespace().next().unwrap();
+            insert(&mut functions, name, parameters, result);
+        }
+    }
+    functions
+}
+
+fn rust() -> Functions {
+    let source = without_line_comments(&text("bindings/rust/src/ffi.rs"));
+    assert_eq!(source.matches("extern").count(), 1);
+    let (_, block) = source.split_once("extern \"C\" {").unwrap();
+    let (block, _) = block.split_once('}').unwrap();
+    let mut functions = Functions::new();
+    for declaration in block.split(';').map(str::trim).filter(|d| !d.is_empty()) {
+        let function = declaration.strip_prefix("fn ").unwrap();
+        let (name, rest) = function.split_at(function.find('(').unwrap());
+        let (parameters, result) = in_parentheses(rest);
+        let parameters = parts(parameters)
+            .map(|parameter| parameter.split_once(": ").unwrap())
+            .map(|(name, kind)| (name.into(), kind.into()))
+            .collect();
+        let result = result.trim().strip_prefix("->").unwrap().trim();
+        insert(&mut functions, name, parameters, result);
+    }
+    functions
+}
+
+fn number_in_rust(c: &str) -> &str {
+    match c {
+        "uint8_t" => "u8",
+        "uint64_t" => "u64",
+        "size_t" => "usize",
+        _ => panic!("{c}: not a type that passes"),
+    }
+}
+
+/// `const uint8_t *deck` or `size_t from`.
+fn parameter_of_c(parameter: &str) -> (String, String) {
+    let (kind, name) = match parameter.split_once('*') {
+        None => {
+            let (kind, name) = parameter.split_once(' ').unwrap();
+            (number_in_rust(kind).to_string(), name)
+        }
+        Some((kind, name)) => {
+            let kind = kind.trim();
+            let pointer = match kind.strip_prefix("const ") {
+                Some(kind) => format!("*const {}", number_in_rust(kind)),
+                None => format!("*mut {}", number_in_rust(kind)),
+            };
+            (pointer, name)
+        }
+    };
+    (name.trim().to_string(), kind)
+}
+
+/// The header without comments and without the preprocessor's lines.
+fn header_text() -> String {
+    let header = text("include/zapelaritz.h");
+    let mut parts = header.split("/*");
+    let mut code = parts.next().unwrap().to_string();
+    for part in parts {
+        code += part.split_once("*/").unwrap().1;
+    }
+    code.lines()
+        .filter(|line| !line.starts_with('#'))
+        .collect::<Vec<_>>()
+        .join("\n")
+}
+
+fn header() -> Functions {
+    let mut functions = Functions::new();
+    for declaration in header_text().split(';').filter(|d| d.contains('(')) {
+        let declaration = declaration.trim();
+        let (before, rest) = declaration.split_at(declaration.find('(').unwrap());
+        let (result, name) = before.split_once(' ').unwrap();
+        let (parameters, rest) = in_parentheses(rest);
+        assert_eq!(rest, "");
+        let parameters = match parameters {
+            "void" => Vec::new(),
+            parameters => parts(parameters).map(parameter_of_c).collect(),
+        };
+        insert(&mut functions, name, parameters, number_in_rust(result));
+    }
+    functions
+}
+
+/// Function by function, for a short message.
+fn same(declared: &Functions, exported: &Functions) {
+    let names = |functions: &Functions| functions.keys().cloned().collect::<Vec<_>>();
+    assert_eq!(names(declared), names(exported));
+    for (name, signature) in exported {
+        assert_eq!(declared.get(name), Some(signature), "{name}");
+    }
+}
+
+#[test]
+fn the_exported_functions() {
+    assert!(rattle().keys().eq(NAMES));
+}
+
+#[test]
+fn rust_declares_what_is_exported() {
+    same(&rust(), &rattle());
+}
+
+#[test]
+fn the_header_declares_what_is_exported() {
+    same(&header(), &rattle());
+}
+
+/// A function of the library takes anything: none has a condition on its caller.
+#[test]
+fn no_function_requires() {
+    for file in rattle_files() {
+        assert!(file.contains("ensures") || !file.contains("fn "));
+        assert!(!file.contains("requires"), "{file}");
+    }
+}
+
+/// The results of the calls, by the source.
+#[test]
+fn codes() {
+    let numbers = rattle_files().concat();
+    let rust = text("bindings/rust/src/ffi.rs");
+    let header = header_text();
+    for (name, number) in [("ACCEPTED", 0), ("REFUSED", 1), ("NOT_MADE", 2)] {
+        let constant = format!("const {name}: u64 = {number};");
+        assert!(numbers.contains(&constant), "{name}");
+        assert!(rust.contains(&constant), "{name}");
+        assert!(header.contains(&format!("{name} = {number}")), "{name}");
+    }
+}

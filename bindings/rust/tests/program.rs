@@ -1,0 +1,295 @@
+//! The runs of the test program `crates/decks`: for each deck and list of calls of its file `args`, the lines of its file
+//! `stdout`, from the printing functions and from calls on a `Model`.
+
+mod common;
+
+use std::collections::HashMap;
+use std::io::Write;
+use std::thread::Builder;
+
+use common::{check_reading, data, loadable, read, tree_lines, waiting_files};
+use zapelaritz::{calls_output, output, Entry, Model, Refusal};
+
+/// A deck, and the list of calls that it is run with; without one, each delivery is merged.
+struct Run {
+    deck: String,
+    calls: Option<String>,
+}
+
+/// A list stands for all decks behind it, until another list or the word `merge` follows.
+fn runs() -> Vec<Run> {
+    let words = String::from_utf8(read("crates/decks/args")).unwrap();
+    let mut calls = None;
+    let mut runs = Vec::new();
+    for word in words.lines() {
+        if word.ends_with(".deck") {
+            runs.push(Run {
+                deck: word.to_string(),
+                calls: calls.clone(),
+            });
+        } else {
+            assert!(word.ends_with(".calls") || word == "merge", "{word}");
+            calls = word.ends_with(".calls").then(|| word.to_string());
+        }
+    }
+    assert!(runs.len() > 600, "{} runs", runs.len());
+    runs
+}
+
+/// Holds what `print` gives for each run to the program's lines.
+fn hold_to_the_program(print: impl Fn(&[u8], Option<&[u8]>) -> Vec<u8>) {
+    let expected = read("crates/decks/stdout");
+    let mut rest = expected.as_slice();
+    for run in runs() {
+        let calls = run.calls.as_deref();
+        let name = [Some(run.deck.as_str()), calls];
+        let name = name.into_iter().flatten().collect::<Vec<_>>().join(" ");
+        let list = calls.map(data);
+        let printed = print(&data(&run.deck), list.as_deref());
+        let lines = [name.as_bytes(), b"\n", &printed].concat();
+        rest = rest.strip_prefix(lines.as_slice()).unwrap_or_else(|| {
+            let length = (lines.len() + 80).min(rest.len());
+            let [lines, rest] =
+                [&lines, &rest[..length]].map(|text| String::from_utf8_lossy(text).into_owned());
+            panic!("{name}: got\n{lines}\nwhere the program prints\n{rest}");
+        });
+    }
+    assert_eq!(rest, b"", "the program prints more");
+}
+
+#[test]
+fn printed_output_is_the_programs() {
+    hold_to_the_program(|deck, calls| match calls {
+        None => output(deck),
+        Some(calls) => calls_output(deck, calls),
+    });
+}
+
+#[test]
+fn calls_on_a_model_are_the_programs() {
+    hold_to_the_program(|deck, calls| {
+        let mut model = match Model::load(deck) {
+            Ok(model) => model,
+            Err(error) => return format!("deck,{},{}\n", error.number(), error.line()).into(),
+        };
+        check_reading("loaded", &model);
+        let mut out = Vec::new();
+        match calls {
+            None => {
+                for file in waiting_files(&model) {
+                    answer(&mut model, Call::Merge(file), &mut out);
+                }
+                answer(&mut model, Call::Model, &mut out);
+            }
+            Some(calls) => answer_lines(&mut model, calls, &mut out),
+        }
+        out
+    });
+}
+
+enum Call {
+    Merge(u64),
+    Rollback(u64),
+    Range(u64, u64, u64),
+    Model,
+    Trees,
+    Log,
+}
+
+/// A line of another form ends the run; so do bytes behind the last LF.
+fn answer_lines(model: &mut Model, calls: &[u8], out: &mut Vec<u8>) {
+    for (number, line) in calls.split_inclusive(|byte| *byte == b'\n').enumerate() {
+        match line.strip_suffix(b"\n").and_then(read_call) {
+            Some(call) => answer(model, call, out),
+            None => return writeln!(out, "calls,{}", number + 1).unwrap(),
+        }
+    }
+}
+
+fn read_call(line: &[u8]) -> Option<Call> {
+    let fields: Vec<&[u8]> = line.split(|byte| *byte == b',').collect();
+    let call = match *fields.as_slice() {
+        [b"merge", file] => Call::Merge(number(file)?),
+        [b"rollback", mark] => Call::Rollback(number(mark)?),
+        [b"range", element, name, version] => {
+            Call::Range(number(element)?, number(name)?, number(version)?)
+        }
+        [b"model"] => Call::Model,
+        [b"trees"] => Call::Trees,
+        [b"log"] => Call::Log,
+        _ => return None,
+    };
+    Some(call)
+}
+
+/// Decimal, without leading zeros, of 64 bits.
+fn number(field: &[u8]) -> Option<u64> {
+    let leading_zero = field.len() > 1 && field[0] == b'0';
+    if leading_zero || !field.iter().all(u8::is_ascii_digit) {
+        return None;
+    }
+    std::str::from_utf8(field).ok()?.parse().ok()
+}
+
+fn answer(model: &mut Model, call: Call, out: &mut Vec<u8>) {
+    match call {
+        Call::Merge(file) => {
+            match model.merge(file) {
+                Ok(counts) => writeln!(
+                    out,
+                    "merged,{file},{},{},{}",
+                    counts.imports, counts.restrictions, counts.extensions
+                ),
+                Err(refusal) => writeln!(out, "refused,{file},{}", fields(refusal)),
+            }
+            .unwrap();
+            check_reading("merged", model);
+        }
+        Call::Rollback(mark) => {
+            match model.rollback(mark) {
+                Ok(entries) => writeln!(out, "rolledback,{mark},{entries}"),
+                Err(refusal) => writeln!(out, "rollback-refused,{mark},{}", refusal.number()),
+            }
+            .unwrap();
+            check_reading("rolled back", model);
+        }
+        Call::Range(element, name, version) => match model.range(element, name, version) {
+            Ok(places) => writeln!(
+                out,
+                "range,{element},{name},{version},{},{}",
+                places.first, places.last
+            )
+            .unwrap(),
+            Err(refusal) => writeln!(
+                out,
+                "range-refused,{element},{name},{version},{}",
+                fields(refusal)
+            )
+            .unwrap(),
+        },
+        Call::Model => out.extend(model.model_lines()),
+        Call::Trees => {
+            out.extend(b"M\n");
+            out.extend(tree_lines(model.root()));
+            for tree in model.waiting() {
+                writeln!(out, "B,{}", tree.file).unwrap();
+                out.extend(tree_lines(tree.root));
+            }
+        }
+        Call::Log => {
+            writeln!(out, "log,{}", model.log().len()).unwrap();
+            for entry in model.log() {
+                writeln!(out, "{}", entry_line(entry)).unwrap();
+            }
+        }
+    }
+}
+
+/// Number, element and name of a refusal.
+fn fields(refusal: Refusal) -> String {
+    let (element, name) = (or_dash(refusal.element()), or_dash(refusal.name()));
+    format!("{},{element},{name}", refusal.number())
+}
+
+fn entry_line(entry: Entry) -> String {
+    match entry {
+        Entry::Import {
+            element,
+            parent,
+            old_parent,
+            old_files,
+        } => format!(
+            "import,{element},{parent},{},{old_files:x}",
+            or_dash(old_parent)
+        ),
+        Entry::Restriction { element, old_files } => format!("restriction,{element},{old_files:x}"),
+        Entry::Extension { element, file } => format!("extension,{element},{file}"),
+    }
+}
+
+fn or_dash(number: Option<u64>) -> String {
+    number.map_or("-".into(), |number| number.to_string())
+}
+
+/// Every deck, also those that the program runs with one list alone: read after the load and after every merge.
+#[test]
+fn every_deck_is_read_as_it_is_printed() {
+    for (name, mut model) in loadable() {
+        check_reading(&name, &model);
+        for file in waiting_files(&model) {
+            // Accepted or refused: the program's runs hold the answers.
+            let _ = model.merge(file);
+            check_reading(&name, &model);
+        }
+    }
+}
+
+/// An output that is printed in several parts.
+#[test]
+fn a_long_output() {
+    let deck = data("printed.deck");
+    let model = b"E,0,0,1\nE,1,3,0\nC,2,s,p\n";
+    let printed = calls_output(&deck, &b"model\n".repeat(20_000));
+    assert!(printed == model.repeat(20_000));
+}
+
+/// Trees of the largest depth are merged on a thread of the size that Rust gives.
+#[test]
+fn deep_trees_on_a_thread() {
+    let thread = Builder::new().stack_size(2 << 20);
+    let run = || {
+        for name in [
+            "depth_31_import.deck",
+            "depth_31_conflict.deck",
+            "depth_31_fallback.deck",
+        ] {
+            assert_ne!(output(&data(name)), b"");
+            assert_ne!(calls_output(&data(name), b"merge,1\n"), b"");
+        }
+    };
+    thread.spawn(run).unwrap().join().unwrap();
+}
+
+/// The test program's decks that load, as text.
+fn loaded_texts() -> impl Iterator<Item = (String, Model)> {
+    runs().into_iter().filter_map(|run| {
+        let deck = data(&run.deck);
+        let model = Model::load(&deck).ok()?;
+        Some((String::from_utf8(deck).unwrap(), model))
+    })
+}
+
+#[test]
+fn files_are_those_of_the_f_lines() {
+    for (deck, model) in loaded_texts() {
+        let expected: Vec<&str> = deck.lines().filter(|line| line.starts_with('F')).collect();
+        let files: Vec<String> = model
+            .files()
+            .map(|file| format!("F,{},{}", file.number, file.version))
+            .collect();
+        assert_eq!(files, expected, "{deck}");
+    }
+}
+
+/// A root is of type 0, and any other element of the type that the S line of its name in its parent's type has.
+#[test]
+fn types_are_those_of_the_s_lines() {
+    for (deck, model) in loaded_texts() {
+        let mut types = HashMap::new();
+        for line in deck.lines().filter(|line| line.starts_with('S')) {
+            let fields: Vec<&str> = line.split(',').collect();
+            let [parent, name, child] = [1, 3, 4].map(|field| fields[field].parse::<u64>());
+            types.insert((parent.unwrap(), name.unwrap()), child.unwrap());
+        }
+        let roots = model.waiting().map(|tree| tree.root).chain([model.root()]);
+        for root in roots {
+            assert_eq!(root.type_number(), 0, "{deck}");
+            for element in root.subtree() {
+                for child in element.sub_elements() {
+                    let expected = types[&(element.type_number(), child.name())];
+                    assert_eq!(child.type_number(), expected, "{deck}");
+                }
+            }
+        }
+    }
+}
