@@ -29,6 +29,7 @@
 // depth: merges at depth 31.
 // log, items: 1,024 log entries and 2,048 content items, met and exceeded by one.
 // slip: each shows one mistake that a port of the merge invites.
+// original: the answers are those of the original's functions, as differential/run --sample writes them (docs/DIFFERENCES.md).
 // Lists: rolled_back_to (the example, to each mark), rollback, merge, trees, range, slip, log, items (calls one by one), largest_numbers,
 // smallest_numbers, and bad (a line of another form, each in one way).
 use streams::buffer::deck_buffer;
