@@ -4,15 +4,8 @@ use borrow.Author.Needs.{needs}
 use Rattle.zapelaritz_c.proofs.numbers.load_numbers.Statement.{statement}
 use Rattle.zapelaritz_c.proofs.numbers.load_numbers.Tie as tie
 
-returns : tie.Need-returns
-unfolding loadNumbers
-returns c = rw (c .before .enum-told .given .1) (c .accepted .ensures)
-
-returns-2 : tie.Need-returns-2
-unfolding loadNumbers
-returns-2 c = rw (c .before .before .a .given .1) (c .refused .ensures)
-
 pub load-numbers-spec : {M : Type 1} → statement M
+unfolding loadNumbers
 load-numbers-spec =
     tie.close
     (tie.spec
@@ -20,5 +13,5 @@ load-numbers-spec =
     (λ c κs. search needs)
     (λ c. search needs)
     (λ c κs. search needs)
-    returns
-    returns-2)
+    (λ c. rw (c .before .enum-told .given .1) (c .accepted .ensures))
+    (λ c. rw (c .before .before .a .given .1) (c .refused .ensures)))

@@ -4,19 +4,8 @@ use borrow.Author.Needs.{needs}
 use Rattle.zapelaritz_c.proofs.numbers.range_numbers.Statement.{statement}
 use Rattle.zapelaritz_c.proofs.numbers.range_numbers.Tie as tie
 
-returns : tie.Need-returns
-unfolding rangeNumbers
-returns c = rw (c .before .before .a .given .1) (c .accepted .ensures)
-
-returns-2 : tie.Need-returns-2
-unfolding rangeNumbers
-returns-2 c = rw (c .before .before .a2 .given .1) (c .refusal-numbers .ensures)
-
-returns-3 : tie.Need-returns-3
-unfolding rangeNumbers
-returns-3 c = rw (c .before .enum-told .given .1) (c .refused .ensures)
-
 pub range-numbers-spec : {M : Type 1} → statement M
+unfolding rangeNumbers
 range-numbers-spec =
     tie.close
     (tie.spec
@@ -26,6 +15,6 @@ range-numbers-spec =
     (λ c κs. search needs)
     (λ c. search needs)
     (λ c κs. search needs)
-    returns
-    returns-2
-    returns-3)
+    (λ c. rw (c .before .before .a .given .1) (c .accepted .ensures))
+    (λ c. rw (c .before .before .a2 .given .1) (c .refusal-numbers .ensures))
+    (λ c. rw (c .before .enum-told .given .1) (c .refused .ensures)))

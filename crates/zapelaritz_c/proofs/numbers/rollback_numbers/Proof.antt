@@ -4,19 +4,8 @@ use borrow.Author.Needs.{needs}
 use Rattle.zapelaritz_c.proofs.numbers.rollback_numbers.Statement.{statement}
 use Rattle.zapelaritz_c.proofs.numbers.rollback_numbers.Tie as tie
 
-returns : tie.Need-returns
-unfolding rollbackNumbers
-returns c = rw (c .before .before .a .given .1) (c .accepted .ensures)
-
-returns-2 : tie.Need-returns-2
-unfolding rollbackNumbers
-returns-2 c = rw (c .before .before .a2 .given .1) (c .refusal-numbers .ensures)
-
-returns-3 : tie.Need-returns-3
-unfolding rollbackNumbers
-returns-3 c = rw (c .before .enum-told .given .1) (c .refused .ensures)
-
 pub rollback-numbers-spec : {M : Type 1} → statement M
+unfolding rollbackNumbers
 rollback-numbers-spec =
     tie.close
     (tie.spec
@@ -26,6 +15,6 @@ rollback-numbers-spec =
     (λ c κs. search needs)
     (λ c. search needs)
     (λ c κs. search needs)
-    returns
-    returns-2
-    returns-3)
+    (λ c. rw (c .before .before .a .given .1) (c .accepted .ensures))
+    (λ c. rw (c .before .before .a2 .given .1) (c .refusal-numbers .ensures))
+    (λ c. rw (c .before .enum-told .given .1) (c .refused .ensures)))
