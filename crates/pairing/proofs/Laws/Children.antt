@@ -7,8 +7,8 @@ use native.Mathlib.Numerals.{add-one}
 use native.Mathlib.Omega.{arith}
 use lib.ListN.{length, getD, set, take, length-set}
 use lib.Seq.{take-suc, take-suc-set, take-all}
-use Rattle.tables.specs.Records.{Element, Item, child, text, Model, listOf}
 use Rattle.tables.specs.Limits.{elementLimit}
+use Rattle.tables.specs.Records.{Element, Item, child, text, Model, listOf}
 use Rattle.tables.specs.ModelTable.{itemIs, countOf, modelOf, ItemBelow, GoodModel}
 use Rattle.tables.proofs.Laws.ModelTable.{item-below}
 use Rattle.tables.specs.declared.model.Item as program
@@ -42,8 +42,8 @@ pub children-all : (m : Model) (e : Element) (n i : ℕ) → n ≡ length (listO
 unfolding childrenOf
 children-all m e n i q h = rw (take-all i (listOf m e) (omega arith))
 
--- a child that is stored has a number that fits a cell
-pub item-small : (xs : List ℕ) (good : GoodModel xs) (e i : ℕ) (a : program.Item) → i < length (listOf (modelOf xs) e) → itemIs a ≡ getD (listOf (modelOf xs) e) i (child 0)
+-- the number of a child in a list
+pub item-small : (xs : List ℕ) → GoodModel xs → (e i : ℕ) (a : program.Item) → i < length (listOf (modelOf xs) e) → itemIs a ≡ getD (listOf (modelOf xs) e) i (child 0)
     → (x : _) → a ≡ Child x → x .0 < elementLimit
 item-small xs good e i a h q x k =
     let below : ItemBelow (countOf (modelOf xs)) (itemIs a) = rw q (item-below xs good e i h) in

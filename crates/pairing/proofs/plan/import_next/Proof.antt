@@ -43,10 +43,7 @@ returns c =
 cast-work : tie.Need-cast-work
 cast-work c =
     let a = c .before .before .before .before .before .before .before .before .before .args in
-    let room = c .before .before .before .before .before .before .before .before .before .pre .0 in
-    let counted = c .before .before .before .before .before .before .before .before .before .pre .1 .0 in
-    let small = cursor-small (a .s) (a .work .now) (a .pairs .now) (a .imports .now) (a .c .a) (a .c .b) (a .c .new) room counted (c .before .before .before .before .before .before .before .before .before .pre .1 .1 .0) in
-    record { fits = omega (arith, small) }
+    c .before .before .before .slice-known3 .given (a .s .start + a .c .b)
 
 cast-work-2 : tie.Need-cast-work-2
 cast-work-2 c = record { fits = omega (arith, c .before .before .before .before .before .before .before .before .before .pre .1 .1 .1) }

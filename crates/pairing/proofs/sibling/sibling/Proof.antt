@@ -1,8 +1,8 @@
 -- `sibling::sibling` meets its contract: what is left of the siblings gives what all give, and what is left of the bytes decides as all do. Assumes nothing.
 use mathlib.Core.Path.{_≡_, refl, _∙_}
 use Prim.Native.Nat.{_-_}
-use lib.ListN.{length, drop}
 use native.Mathlib.Omega.{arith}
+use lib.ListN.{length, drop}
 use Rattle.tables.specs.Lists.{firstOf}
 use Rattle.tables.specs.ModelTable.{modelOf}
 use Rattle.state_test.specs.StateTest.{fixedIn}
