@@ -1,14 +1,20 @@
 -- What the code's moves and ranges stand for in the rules. Assumes nothing.
 use mathlib.Core.List.{List}
 use mathlib.Core.Path.{_≡_}
-use Prim.Native.Nat.{ℕ, _≤_, Ordering, Ordering·lt, Ordering·eq, Ordering·gt}
-use lib.ListN.{length}
-use Rattle.tables.specs.Records.{listOf}
+use Prim.Native.Nat.{ℕ, _+_, _≤_, Ordering, Ordering·lt, Ordering·eq, Ordering·gt}
+use lib.ListN.{length, getD}
+use Rattle.tables.specs.Records.{Fixed, Item, child, text, nameOf, typeOf, listOf}
+use Rattle.tables.specs.ElementsTable.{elementsOf}
 use Rattle.tables.specs.ModelTable.{modelOf}
+use Rattle.tables.specs.SchemaTable.{schemaOf, modeFrom, multNumber, multFrom, noSubElement}
 use Rattle.tables.specs.declared.path.Order.{Order}
 use Rattle.tables.specs.declared.path.Order.the-variants.{Less, Equal, Greater}
 use Rattle.state_test.specs.StateTest.{fixedIn}
-use Rattle.merge_rules.specs.Range.{Range, places, noRow, conflicting, Move, stop, move, clash, calcElementInsertRange}
+use Rattle.merge_rules.specs.Range.{Range, places, noRow, conflicting, Move, stop, move, clash, moveBy, moveAt, calcElementInsertRange}
+use Rattle.changes.specs.declared.range.Against.{Against}
+use Rattle.changes.specs.declared.range.Against.the-variants.{NoRow as NoRowOf, Row}
+use Rattle.changes.specs.declared.range.Bounds.{Bounds}
+use Rattle.changes.specs.declared.range.Compared.{Compared}
 use Rattle.changes.specs.declared.range.Move as step
 use Rattle.changes.specs.declared.range.Move.the-variants.{Stop, To, Clash}
 use Rattle.changes.specs.declared.range.Range as program
@@ -24,6 +30,38 @@ abbrev pub moveIs : step.Move → Move
 moveIs Stop = stop
 moveIs (To b) = move (b .first) (b .last)
 moveIs Clash = clash
+
+-- the bounds behind a move
+abbrev pub boundsAfter : step.Move → Bounds → Bounds
+boundsAfter Stop b = b
+boundsAfter (To c) b = c
+boundsAfter Clash b = b
+
+-- the move of an element of a name, by how its elements stand to the new one
+abbrev pub moveFor : Against → ℕ → ℕ → Bounds → Move
+moveFor NoRowOf mult index b = move (b .first) (b .last)
+moveFor (Row mode order) mult index b = moveBy (modeFrom mode) (orderingIs order) (multFrom mult) (b .first) index
+
+-- the move of an item; a text moves the last place
+abbrev pub moveOf : Item → Against → ℕ → ℕ → Bounds → Move
+moveOf (child e) x mult index b = moveFor x mult index b
+moveOf (text t) x mult index b = move (b .first) (index + 1)
+
+-- c is how the elements of its name stand to row new in a list of type t
+pub record Compares (schema : List ℕ) (t new : ℕ) (c : Compared) : Type 0 where
+  pub is : (x : Fixed) (p e mult index : ℕ) (b : Bounds) → x .schema ≡ schemaOf schema → t ≡ typeOf x p → c .name .0 ≡ nameOf x e
+      → mult ≡ multNumber (getD (schemaOf schema .subElements) new noSubElement .mult)
+      → moveFor (c .against) mult index b ≡ moveAt x p (getD (schemaOf schema .subElements) new noSubElement) (child e) index (b .first) (b .last)
+
+-- c has the name of the item, if that is an element
+abbrev pub NamesItem : List ℕ → Item → Compared → Type 0
+NamesItem elements (child e) c = c .name .0 ≡ getD (elementsOf elements .names) e 0
+NamesItem elements (text t) c = Unit {0}
+
+-- r is the item's move of the bounds, which were before and are after
+pub record Moves (a : Item) (x : Against) (mult index : ℕ) (before after : Bounds) (r : step.Move) : Type 0 where
+  pub is : moveIs r ≡ moveOf a x mult index before
+  pub moved : after ≡ boundsAfter r before
 
 abbrev pub rangeIs : program.Range → Range
 rangeIs (Places first last) = places first last

@@ -10,8 +10,10 @@ use tables::model::item_at;
 use tables::model::list_length;
 use tables::numbers::Element;
 use tables::numbers::Name;
+use tables::numbers::TypeNumber;
 use tables::path::Order;
 use tables::schema::row_mult;
+use tables::schema::row_name;
 use tables::schema::row_path;
 use tables::schema::type_mode;
 ghost use mathlib.Core.List.{List};
@@ -25,9 +27,9 @@ ghost use Rattle.tables.specs.ElementsTable.{elementsOf, GoodElements};
 ghost use Rattle.tables.specs.ModelTable.{modelOf, itemIs, ItemBelow};
 ghost use Rattle.tables.specs.SchemaTable.{schemaOf, GoodSchema, modeFrom, multFrom, noSubElement};
 ghost use Rattle.state_test.specs.StateTest.{fixedIn};
-ghost use Rattle.merge_rules.specs.Range.{equalPath, moveBy, moveAt, readContent};
+ghost use Rattle.merge_rules.specs.Range.{equalPath, moveBy, readContent};
 ghost use Rattle.table_test.specs.Fits.{ModelOver};
-ghost use Rattle.changes.specs.Range.{orderingIs, moveIs, rangeIs, Ranges};
+ghost use Rattle.changes.specs.Range.{orderingIs, moveIs, moveOf, boundsAfter, Compares, NamesItem, Moves, rangeIs, Ranges};
 
 // The first and last place; no row of the name in the version; a conflict.
 pub enum Range {
@@ -87,43 +89,125 @@ fn move_by(mode: u64, order: Order, mult: u64, first: usize, index: usize) -> Mo
     }
 }
 
-// One item of p's list against the row of the new name; a text moves the last place.
-fn move_at(
-    schema: &[u64],
-    elements: &[u64],
-    p: Element,
-    new: usize,
-    a: Item,
-    index: usize,
-    bounds: Bounds,
-) -> Move
+// How the elements of a name stand to the new one: no row of the name; else the common group's mode, and the new path's order against theirs.
+pub enum Against {
+    NoRow,
+    Row(u64, Order),
+}
+
+pub struct Compared {
+    pub name: Name,
+    pub against: Against,
+}
+
+fn compare_name(schema: &[u64], t: TypeNumber, new: usize, n: Name) -> Compared
     requires { ⌜ GoodSchema (now schema) ⌝ }
-    requires { ⌜ GoodElements (now elements) ⌝ }
-    requires { ⌜ Each (λ (t : ℕ). t < length (schemaOf (now schema) .types)) (elementsOf (now elements) .types) ⌝ }
-    requires { ⌜ p .0 < length (elementsOf (now elements) .names) ⌝ }
+    requires { ⌜ t .0 < length (schemaOf (now schema) .types) ⌝ }
     requires { ⌜ new < length (schemaOf (now schema) .subElements) ⌝ }
-    requires { ⌜ ItemBelow (length (elementsOf (now elements) .names)) (itemIs a) ⌝ }
-    requires { ⌜ index < itemLimit ⌝ }
-    ensures { λ r. ⌜ ((deck : List ℕ) → moveIs r ≡ moveAt (fixedIn deck (now (schema .entry)) (now (elements .entry))) (p .0) (getD (schemaOf (now (schema .entry)) .subElements) new noSubElement) (itemIs a) index (bounds .first) (bounds .last)) ⌝ }
+    ensures { λ r. ⌜ Compares (now (schema .entry)) (t .0) new r ⌝ }
+    ensures { λ r. ⌜ r .name ≡ n ⌝ }
 {
-    let Item::Child(e) = a else {
-        return Move::To(Bounds {
-            first: bounds.first,
-            last: index + 1,
-        });
-    };
-    let t = element_type(elements, p);
-    let n = element_name(elements, e);
     let Found::At(old) = row_of_name(schema, t, n) else {
-        return Move::To(bounds);
+        return Compared {
+            name: n,
+            against: Against::NoRow,
+        };
     };
     let path = row_path(schema, new);
     let other = row_path(schema, old);
     let mode = find_common_group(schema, t, path, other);
     let order = path.order(other);
-    let mult = row_mult(schema, new);
+    Compared {
+        name: n,
+        against: Against::Row(mode, order),
+    }
+}
+
+// The last comparison holds for the next element of its name.
+fn compare_item(
+    schema: &[u64],
+    elements: &[u64],
+    t: TypeNumber,
+    new: usize,
+    a: Item,
+    last: Compared,
+) -> Compared
+    requires { ⌜ GoodSchema (now schema) ⌝ }
+    requires { ⌜ GoodElements (now elements) ⌝ }
+    requires { ⌜ t .0 < length (schemaOf (now schema) .types) ⌝ }
+    requires { ⌜ new < length (schemaOf (now schema) .subElements) ⌝ }
+    requires { ⌜ ItemBelow (length (elementsOf (now elements) .names)) (itemIs a) ⌝ }
+    requires { ⌜ Compares (now schema) (t .0) new last ⌝ }
+    ensures { λ r. ⌜ Compares (now (schema .entry)) (t .0) new r ⌝ }
+    ensures { λ r. ⌜ NamesItem (now (elements .entry)) (itemIs a) r ⌝ }
+{
+    let Item::Child(e) = a else {
+        return last;
+    };
+    let n = element_name(elements, e);
+    let name = last.name;
+    if n.0 == name.0 {
+        return last;
+    }
+    compare_name(schema, t, new, n)
+}
+
+// The move of an item; a text moves the last place.
+fn move_of(a: Item, against: Against, mult: u64, index: usize, bounds: Bounds) -> Move
+    requires { ⌜ index < itemLimit ⌝ }
+    ensures { λ r. ⌜ moveIs r ≡ moveOf (itemIs a) against mult index bounds ⌝ }
+{
     let first = bounds.first;
-    move_by(mode, order, mult, first, index)
+    match a {
+        Item::Child(_) => match against {
+            Against::NoRow => Move::To(bounds),
+            Against::Row(mode, order) => move_by(mode, order, mult, first, index),
+        },
+        Item::Text(_) => Move::To(Bounds {
+            first,
+            last: index + 1,
+        }),
+    }
+}
+
+// The bounds behind a move.
+fn bounds_after(m: Move, bounds: Bounds) -> Bounds
+    ensures { λ r. ⌜ r ≡ boundsAfter m bounds ⌝ }
+{
+    match m {
+        Move::Stop => bounds,
+        Move::To(next) => next,
+        Move::Clash => bounds,
+    }
+}
+
+// One content item moves the bounds that are lent.
+fn read_item(a: Item, against: Against, mult: u64, index: usize, bounds: &mut Bounds) -> Move
+    requires { ⌜ index < itemLimit ⌝ }
+    ensures { λ r. ⌜ Moves (itemIs a) against mult index (now (bounds .entry)) (now (bounds .exit)) r ⌝ }
+{
+    let m = move_of(a, against, mult, index, *bounds);
+    *bounds = bounds_after(m, *bounds);
+    m
+}
+
+// An item's move, and the bounds behind it.
+pub struct Moved {
+    pub answer: Move,
+    pub bounds: Bounds,
+}
+
+// The bounds, lent to the step for one item.
+fn lend_bounds(a: Item, against: Against, mult: u64, index: usize, bounds: Bounds) -> Moved
+    requires { ⌜ index < itemLimit ⌝ }
+    ensures { λ r. ⌜ Moves (itemIs a) against mult index bounds (r .bounds) (r .answer) ⌝ }
+{
+    let mut lent = bounds;
+    let answer = read_item(a, against, mult, index, &mut lent);
+    Moved {
+        answer,
+        bounds: lent,
+    }
 }
 
 // The items of p's list in order, against the row of the new name.
@@ -136,15 +220,22 @@ fn read_content(schema: &[u64], elements: &[u64], model: &[u64], p: Element, new
     requires { ⌜ new < length (schemaOf (now schema) .subElements) ⌝ }
     ensures { λ r. ⌜ ((deck : List ℕ) → rangeIs r ≡ readContent (fixedIn deck (now (schema .entry)) (now (elements .entry))) (p .0) (getD (schemaOf (now (schema .entry)) .subElements) new noSubElement) (listOf (modelOf (now (model .entry))) (p .0)) 0 0 0) ⌝ }
 {
+    let t = element_type(elements, p);
+    let mult = row_mult(schema, new);
     let n = list_length(model, p);
+    let mut compared = compare_name(schema, t, new, row_name(schema, new));
     let mut bounds = Bounds { first: 0, last: 0 };
     let mut i: usize = 0;
     while i < n {
         let a = item_at(model, p, i);
-        let m = move_at(schema, elements, p, new, a, i, bounds);
+        compared = compare_item(schema, elements, t, new, a, compared);
+        let against = compared.against;
+        let s = lend_bounds(a, against, mult, i, bounds);
+        bounds = s.bounds;
+        let m = s.answer;
         match m {
             Move::Stop => return Range::Places(bounds.first, bounds.last),
-            Move::To(next) => bounds = next,
+            Move::To(_) => {}
             Move::Clash => return Range::Conflicting,
         }
         i += 1;

@@ -13,7 +13,7 @@ use Rattle.tables.specs.Paths.{cellsOf, partsOf, pathCells}
 use Rattle.tables.specs.Records.{SchemaPath, modes, characters, mults, any, TypeRow, Group, SubElement, File, Text}
 use Rattle.tables.specs.SetCells.{setIs}
 use Rattle.tables.specs.Texts.{textFrom}
-use Rattle.deck.specs.Deck.{Part, Line}
+use Rattle.deck.specs.Deck.{Part, Line, readLine}
 use Rattle.deck.specs.declared.fields.Num.{Num}
 use Rattle.deck.specs.declared.fields.Num.the-variants.{Number, Bad as BadNumber}
 use Rattle.deck.specs.declared.fields.PathField.{PathField}
@@ -28,6 +28,8 @@ use Rattle.deck.specs.declared.lines.RowCells.{RowCells}
 use Rattle.deck.specs.declared.lines.FileCells.{FileCells}
 use Rattle.deck.specs.declared.lines.Line as program
 use Rattle.deck.specs.declared.lines.Line.the-variants.{T, G, S, F, M, B, E, C, Bad}
+use Rattle.deck.specs.declared.reader.NextLine.{NextLine}
+use Rattle.deck.specs.declared.reader.NextLine.the-variants.{Whole, Open}
 
 -- ---- places
 
@@ -166,3 +168,16 @@ lineFits Bad = Unit {0}
 pub record LineReads (r : program.Line) (o : Option Line) : Type 0 where
   pub is : lineIs r ≡ o
   pub fits : lineFits r
+
+-- line is the one from the byte at up to its LF, and behind is the byte behind that
+pub record LineAt (deck : List ℕ) (at : ℕ) (line : program.Line) (behind : ℕ) : Type 0 where
+  pub end : ℕ
+  pub next : Next deck 10 at (length deck) end
+  pub within : end < length deck
+  pub reads : LineReads line (readLine (partAt deck at end))
+  pub is : behind ≡ end + 1
+
+-- what stands from the byte at on
+abbrev pub NextReads : List ℕ → ℕ → NextLine → Type 0
+NextReads deck at (Whole line behind) = LineAt deck at line behind
+NextReads deck at Open = Next deck 10 at (length deck) (length deck)

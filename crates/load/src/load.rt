@@ -16,8 +16,8 @@ use crate::tree_lines::load_c;
 use crate::tree_lines::load_e;
 use crate::tree_lines::load_m;
 use deck::lines::Line;
-use deck::lines::line_end;
-use deck::lines::read_line;
+use deck::reader::NextLine;
+use deck::reader::line_from;
 use tables::elements::ELEMENTS_SIZE;
 use tables::limits::DECK_LIMIT;
 use tables::log::LOG_SIZE;
@@ -27,7 +27,7 @@ use tables::schema::SCHEMA_SIZE;
 ghost use mathlib.Core.Bool.{false};
 ghost use mathlib.Core.Path.{_≡_};
 ghost use mathlib.Core.List.{List, []};
-ghost use Prim.Native.Nat.{ℕ, _<_, _≤_};
+ghost use Prim.Native.Nat.{ℕ, _≤_};
 ghost use lib.ListN.{length, replicate};
 ghost use Rattle.tables.specs.Limits.{deckLimit};
 ghost use Rattle.tables.specs.ElementsTable.{HoldsElements};
@@ -108,12 +108,10 @@ fn read_lines(deck: &[u8], schema: &mut [u64], elements: &mut [u64], model: &mut
     let mut at = 0;
     let mut n: u64 = 0;
     while at < deck.len() {
-        let end = line_end(deck, at);
         let number = n + 1;
-        if deck.len() <= end {
+        let NextLine::Whole(line, behind) = line_from(deck, at) else {
             return Answer::Refused(FORM, number);
-        }
-        let line = read_line(deck, at, end);
+        };
         let s = load_line(schema, elements, model, p, line);
         let v = s.verdict;
         if let Verdict::Refused(r) = v {
@@ -121,7 +119,7 @@ fn read_lines(deck: &[u8], schema: &mut [u64], elements: &mut [u64], model: &mut
         }
         p = s.progress;
         n = number;
-        at = end + 1;
+        at = behind;
     }
     finish(p, n)
 }

@@ -4,17 +4,17 @@ ghost use mathlib.Core.Path.{_≡_};
 ghost use Rattle.tables.specs.Lists.{allOf};
 ghost use Rattle.table_test.specs.ModelTest.{isZero, atMost};
 
+// No way out at the first cell that is not zero: so the compiler takes several cells at a time.
 pub fn all_zero(s: &[u64]) -> bool
     ensures { λ r. ⌜ r ≡ allOf isZero (now (s .entry)) ⌝ }
 {
+    let mut any: u64 = 0;
     let mut j = 0;
     while j < s.len() {
-        if s[j] != 0 {
-            return false;
-        }
+        any = any | s[j];
         j += 1;
     }
-    true
+    any == 0
 }
 
 pub fn all_at_most(s: &[u64], n: u64) -> bool

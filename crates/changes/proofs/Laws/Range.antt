@@ -13,7 +13,8 @@ use Rattle.tables.specs.Paths.{pathOrder, orderOf}
 use Rattle.tables.specs.Records.{SchemaPath, Mode, Mult, Item, child, text, Fixed, SubElement, Model, typeRow, nameOf, typeOf, listOf}
 use Rattle.tables.specs.ElementsTable.{elementsOf, GoodElements}
 use Rattle.tables.specs.ModelTable.{modelOf, countOf, ItemBelow, GoodModel}
-use Rattle.tables.specs.SchemaTable.{schemaOf, modeNumber, modeFrom, multNumber, multFrom}
+use Rattle.tables.specs.SchemaTable.{schemaOf, modeNumber, modeFrom, multNumber, multFrom, noSubElement}
+use Rattle.tables.specs.declared.numbers.Name.{Name}
 use Rattle.tables.specs.declared.path.Order.{Order}
 use Rattle.tables.specs.declared.path.Order.the-variants.{Less, Equal, Greater}
 use Rattle.tables.proofs.Laws.Cells.{each-getD}
@@ -29,8 +30,11 @@ use Rattle.changes.specs.declared.range.Move as step
 use Rattle.changes.specs.declared.range.Move.the-variants.{Stop, To, Clash}
 use Rattle.changes.specs.declared.range.Range as program
 use Rattle.changes.specs.declared.range.Range.the-variants.{Places, NoRow, Conflicting}
+use Rattle.changes.specs.declared.range.Against.{Against}
+use Rattle.changes.specs.declared.range.Against.the-variants.{NoRow as NoRowOf, Row}
 use Rattle.changes.specs.declared.range.Bounds.{Bounds}
-use Rattle.changes.specs.Range.{orderingIs, moveIs, rangeIs, PlacesIn, Ranges}
+use Rattle.changes.specs.declared.range.Compared.{Compared}
+use Rattle.changes.specs.Range.{orderingIs, moveIs, moveOf, boundsAfter, Compares, NamesItem, Moves, rangeIs, PlacesIn, Ranges}
 use Rattle.table_test.specs.Fits.{ModelOver}
 
 -- ---- a move, by numbers
@@ -100,54 +104,84 @@ move-back : (m : Mode) (o : Ordering) (k : Mult) (first index : ℕ) {mode mult 
     → moveBy (modeFrom mode) (orderingIs order) (multFrom mult) first index ≡ moveBy m o k first index
 move-back m o k first index hm ho hk = rw (hm, ho, hk, mode-back m, order-back o, mult-back k)
 
--- ---- one item
+-- ---- one item, by how the elements of its name stand to the new one
 
-module _ (x : Fixed) (p : ℕ) (new : SubElement) (index first last : ℕ) where
-  pub move-text : {a : Item} {t : ℕ} → a ≡ text t → move first (index + 1) ≡ moveAt x p new a index first last
+module _ (mult index : ℕ) (b : Bounds) (x : Against) {a : Item} where
+  pub child-missing : {e : ℕ} → a ≡ child e → x ≡ NoRowOf → move (b .first) (b .last) ≡ moveOf a x mult index b
+  child-missing h k = rw (h, k)
+
+  pub child-row : {e mode : ℕ} {order : Order} → a ≡ child e → x ≡ Row mode order → (r : step.Move)
+      → moveIs r ≡ moveBy (modeFrom mode) (orderingIs order) (multFrom mult) (b .first) index → moveIs r ≡ moveOf a x mult index b
+  child-row h k r g = rw (h, k) g
+
+  pub text-last : {t : ℕ} → a ≡ text t → move (b .first) (index + 1) ≡ moveOf a x mult index b
+  text-last h = rw h
+
+module _ (schema : List ℕ) (t new : ℕ) (n : Name) where
+  pub compares-none : rowOfName (schemaOf schema) t (n .0) ≡ none → Compares schema t new (record { name = n; against = NoRowOf })
   unfolding moveAt
-  move-text e = rw (e, add-one index)
+  compares-none h =
+      record {
+        is = λ x p e mult index b hs ht hn hm.
+            let k : rowOfName (x .schema) (typeOf x p) (nameOf x e) ≡ none = rw (hs, ← ht, ← hn) h in
+            rw (moveAt, k);
+      }
 
-  module _ {a : Item} {e : ℕ} (is : a ≡ child e) {t n : ℕ} (ht : t ≡ typeOf x p) (hn : n ≡ nameOf x e) where
-    pub move-missing : rowOfName (x .schema) t n ≡ none → move first last ≡ moveAt x p new a index first last
-    unfolding moveAt
-    move-missing h =
-        let k : rowOfName (x .schema) (typeOf x p) (nameOf x e) ≡ none = rw (← ht, ← hn) h in
-        rw (is, moveAt, k)
+  pub compares-row : {old : SubElement} → rowOfName (schemaOf schema) t (n .0) ≡ some old
+      → {path other : SchemaPath} → path ≡ getD (schemaOf schema .subElements) new noSubElement .path → other ≡ old .path
+      → {mode : ℕ} {order : Order} → mode ≡ modeNumber (findCommonGroup (schemaOf schema) t path other) → order ≡ orderOf (pathOrder path other)
+      → Compares schema t new (record { name = n; against = Row mode order })
+  unfolding moveAt
+  compares-row {old} h hp ho hm hr =
+      record {
+        is = λ x p e mult index b hs ht hn hk.
+            let k : rowOfName (x .schema) (typeOf x p) (nameOf x e) ≡ some old = rw (hs, ← ht, ← hn) h in
+            move-back _ _ _ (b .first) index hm hr hk ∙ rw (moveAt, k, hp, ho, ht, hs);
+      }
 
-    pub move-row : {old : SubElement} → rowOfName (x .schema) t n ≡ some old
-        → {path other : SchemaPath} → path ≡ new .path → other ≡ old .path
-        → {mode mult : ℕ} {order : Order} → mode ≡ modeNumber (findCommonGroup (x .schema) t path other) → order ≡ orderOf (pathOrder path other)
-        → mult ≡ multNumber (new .mult) → (m : step.Move) → moveIs m ≡ moveBy (modeFrom mode) (orderingIs order) (multFrom mult) first index
-        → moveIs m ≡ moveAt x p new a index first last
-    unfolding moveAt
-    move-row {old} h hp ho hm hr hk m g =
-        let k : rowOfName (x .schema) (typeOf x p) (nameOf x e) ≡ some old = rw (← ht, ← hn) h in
-        g ∙ move-back _ _ _ first index hm hr hk ∙ rw (is, moveAt, k, hp, ho, ht)
+module _ (elements : List ℕ) (c : Compared) {a : Item} where
+  pub names-text : {t : ℕ} → a ≡ text t → NamesItem elements a c
+  names-text h = rw h tt
 
--- ---- the items from place i on, the moves of item i
+  pub names-child : {e : ℕ} → a ≡ child e → c .name .0 ≡ getD (elementsOf elements .names) e 0 → NamesItem elements a c
+  names-child h k = rw h k
 
-module _ (x : Fixed) (p : ℕ) (new : SubElement) (l : List Item) (i first last : ℕ) where
-  module _ (h : i < length l) {a : Item} (at : a ≡ getD l i (child 0)) (m : step.Move) (is : moveIs m ≡ moveAt x p new a i first last) where
-    pub read-stop : m ≡ Stop → readContent x p new (drop i l) i first last ≡ places first last
-    unfolding readContent
-    read-stop e =
-        let k : moveAt x p new (getD l i (child 0)) i first last ≡ stop = rw (← at) (sym is ∙ ap moveIs e) in
-        rw (drop-next l i (child 0) h, readContent, k)
+-- ---- the items from place i on, by the move of item i
 
-    pub read-clash : m ≡ Clash → readContent x p new (drop i l) i first last ≡ conflicting
-    unfolding readContent
-    read-clash e =
-        let k : moveAt x p new (getD l i (child 0)) i first last ≡ clash = rw (← at) (sym is ∙ ap moveIs e) in
-        rw (drop-next l i (child 0) h, readContent, k)
+-- the move m of item i of the list l, from the bounds b to b′
+pub record ItemRead (x : Fixed) (p : ℕ) (new : SubElement) (l : List Item) (i : ℕ) (b b′ : Bounds) (m : step.Move) : Type 0 where
+  pub within : i < length l
+  pub is : moveAt x p new (getD l i (child 0)) i (b .first) (b .last) ≡ moveIs m
+  pub moved : b′ ≡ boundsAfter m b
 
-    pub read-more : {b : Bounds} → m ≡ To b
-        → readContent x p new (drop (i + 1) l) (i + 1) (b .first) (b .last) ≡ readContent x p new (drop i l) i first last
-    unfolding readContent
-    read-more {b} e =
-        let k : moveAt x p new (getD l i (child 0)) i first last ≡ move (b .first) (b .last) = rw (← at) (sym is ∙ ap moveIs e) in
-        rw (drop-next l i (child 0) h, readContent, k, add-one i)
+module _ (deck schema elements : List ℕ) (p : ℕ) {t : ℕ} (ht : t ≡ typeOf (fixedIn deck schema elements) p) (new : ℕ) {mult : ℕ}
+    (hm : mult ≡ multNumber (getD (schemaOf schema .subElements) new noSubElement .mult)) (c : Compared) (compares : Compares schema t new c) where
+  item-moves : (a : Item) → NamesItem elements a c → (index : ℕ) (b : Bounds)
+      → moveOf a (c .against) mult index b ≡ moveAt (fixedIn deck schema elements) p (getD (schemaOf schema .subElements) new noSubElement) a index (b .first) (b .last)
+  unfolding moveAt
+  item-moves (child e) n index b = compares .is (fixedIn deck schema elements) p e _ index b refl ht n hm
+  item-moves (text t) n index b = rw (moveAt, add-one index)
 
-  pub read-end : length l ≤ i → readContent x p new (drop i l) i first last ≡ places first last
+  pub item-read : (l : List Item) (i : ℕ) → i < length l → (a : Item) → a ≡ getD l i (child 0) → NamesItem elements a c → {b b′ : Bounds} {m : step.Move}
+      → Moves a (c .against) mult i b b′ m → ItemRead (fixedIn deck schema elements) p (getD (schemaOf schema .subElements) new noSubElement) l i b b′ m
+  item-read l i h a at n moves = record { within = h; is = rw (← at) (sym (moves .is ∙ item-moves a n i _)); moved = moves .moved }
+
+module _ {x : Fixed} {p : ℕ} {new : SubElement} {l : List Item} {i : ℕ} {b b′ : Bounds} {m : step.Move} (r : ItemRead x p new l i b b′ m) where
+  pub read-stop : m ≡ Stop → readContent x p new (drop i l) i (b .first) (b .last) ≡ places (b′ .first) (b′ .last)
+  unfolding readContent
+  read-stop e = rw (drop-next l i (child 0) (r .within), readContent, r .is, r .moved, e)
+
+  pub read-clash : m ≡ Clash → readContent x p new (drop i l) i (b .first) (b .last) ≡ conflicting
+  unfolding readContent
+  read-clash e = rw (drop-next l i (child 0) (r .within), readContent, r .is, e)
+
+  pub read-more : {c : Bounds} → m ≡ To c
+      → readContent x p new (drop (i + 1) l) (i + 1) (b′ .first) (b′ .last) ≡ readContent x p new (drop i l) i (b .first) (b .last)
+  unfolding readContent
+  read-more e = rw (drop-next l i (child 0) (r .within), readContent, r .is, r .moved, e, add-one i)
+
+module _ (x : Fixed) (p : ℕ) (new : SubElement) (l : List Item) (i : ℕ) (b : Bounds) where
+  pub read-end : length l ≤ i → readContent x p new (drop i l) i (b .first) (b .last) ≡ places (b .first) (b .last)
   unfolding readContent
   read-end h = rw (drop-of-length-le l {i = i} h)
 

@@ -15,7 +15,7 @@ use Rattle.tables.specs.Lists.{anyOf, sum}
 use Rattle.tables.specs.ModelTable.{HoldsModel}
 use Rattle.tables.specs.SchemaTable.{HoldsSchema}
 use Rattle.tables.specs.Cells.{between}
-use Rattle.deck.specs.Answers.{partAt, Next, lineIs, LineReads}
+use Rattle.deck.specs.Answers.{partAt, Next, lineIs, LineAt}
 use Rattle.deck.specs.Deck.{Part, parts, lines, readLine}
 use Rattle.deck.specs.Load.{Loading, Res, ok, refused, Load, refusedAt, form, treeRule, limit, nothing, loadLines, finish, load}
 use Rattle.deck.proofs.Laws.Parts.{parts-some, between-cons, next-line, last-line}
@@ -98,33 +98,39 @@ load-last : (deck : List ℕ) (n : ℕ) (p : Part) (b : ℕ) (bs : List ℕ) (l 
 unfolding loadLines
 load-last deck n p b bs l e = rw e
 
-module _ (deck : List ℕ) (p : Progress) (at n : ℕ) (schema elements model : List ℕ) (r : Reading deck p at n schema elements model) (e : ℕ) (next : Next deck 10 at (length deck) e) where
+module _ (deck : List ℕ) (p : Progress) (at n : ℕ) (schema elements model : List ℕ) (r : Reading deck p at n schema elements model) where
   -- a line without LF
-  pub reading-open : at < length deck → length deck ≤ e → Loads (RefusedAnswer form (n + 1)) deck schema elements model (load deck)
+  pub reading-open : at < length deck → Next deck 10 at (length deck) (length deck) → Loads (RefusedAnswer form (n + 1)) deck schema elements model (load deck)
   unfolding answerIs
-  reading-open h k =
+  reading-open h next =
       record {
         is =
             rw (add-one n)
-            (sym (load-last deck n (partAt deck at e) (getD deck at 0) (between (at + 1) e deck) (loadingOf p schema elements model)
-            (between-cons deck at e (omega arith) (next .within)))
-            ∙ ap (λ (ps : List Part). loadLines deck n ps (loadingOf p schema elements model)) (sym (last-line deck 10 at e next k)) ∙ r .is);
+            (sym (load-last deck n (partAt deck at (length deck)) (getD deck at 0) (between (at + 1) (length deck) deck) (loadingOf p schema elements model)
+            (between-cons deck at (length deck) h (next .within)))
+            ∙ ap (λ (ps : List Part). loadLines deck n ps (loadingOf p schema elements model)) (sym (last-line deck 10 at (length deck) next (omega arith))) ∙ r .is);
         goodSchema = r .good .goodSchema;
         goodElements = r .good .goodElements;
         goodModel = r .good .goodModel;
       }
 
-  module _ (line : program.Line) (s : Step) (schema′ elements′ model′ : List ℕ) (h : e < length deck) (read : LineReads line (readLine (partAt deck at e))) (led : StepResult s schema′ elements′ model′ (lineResult (loadingOf p schema elements model) (lineIs line))) where
-    whole : onward deck n (parts 10 (e + 1) (drop (e + 1) deck)) (verdictIs (s .verdict) (loadingOf (s .progress) schema′ elements′ model′)) ≡ load deck
+  module _ (line : program.Line) (behind : ℕ) (found : LineAt deck at line behind) (s : Step) (schema′ elements′ model′ : List ℕ)
+      (led : StepResult s schema′ elements′ model′ (lineResult (loadingOf p schema elements model) (lineIs line))) where
+    whole : onward deck n (parts 10 behind (drop behind deck)) (verdictIs (s .verdict) (loadingOf (s .progress) schema′ elements′ model′)) ≡ load deck
     whole =
-        rw (led .is, read .is)
-        (sym (load-next deck n (partAt deck at e) (parts 10 (e + 1) (drop (e + 1) deck)) (loadingOf p schema elements model) (parts-some 10 (e + 1) (drop (e + 1) deck)))
-        ∙ ap (λ (ps : List Part). loadLines deck n ps (loadingOf p schema elements model)) (sym (next-line deck 10 at e next h)) ∙ r .is)
+        rw (led .is, found .reads .is, found .is)
+        (sym (load-next deck n (partAt deck at (found .end)) (parts 10 (found .end + 1) (drop (found .end + 1) deck)) (loadingOf p schema elements model) (parts-some 10 (found .end + 1) (drop (found .end + 1) deck)))
+        ∙ ap (λ (ps : List Part). loadLines deck n ps (loadingOf p schema elements model)) (sym (next-line deck 10 at (found .end) (found .next) (found .within))) ∙ r .is)
 
-    pub reading-taken : s .verdict ≡ Taken → Reading deck (s .progress) (e + 1) (n + 1) schema′ elements′ model′
+    pub reading-taken : s .verdict ≡ Taken → Reading deck (s .progress) behind (n + 1) schema′ elements′ model′
     unfolding verdictIs
     reading-taken v =
-        record { few = omega (arith, next .past, r .few); within = omega arith; good = led .good; is = rw (add-one n) (rw v at whole) }
+        record {
+          few = omega (arith, found .next .past, found .is, r .few);
+          within = omega (arith, found .within, found .is);
+          good = led .good;
+          is = rw (add-one n) (rw v at whole);
+        }
 
     pub reading-refused : (x : ℕ) → s .verdict ≡ Refused x → Loads (RefusedAnswer x (n + 1)) deck schema′ elements′ model′ (load deck)
     unfolding verdictIs answerIs

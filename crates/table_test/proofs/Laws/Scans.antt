@@ -1,11 +1,12 @@
--- Laws of scans: entries that do not fall, and no element twice in a list. Assumes nothing.
-use mathlib.Core.Bool.{Bool, true, false}
+-- Laws of scans: cells that are all zero, entries that do not fall, and no element twice in a list. Assumes nothing.
+use mathlib.Core.Bool.{Bool, true, false, _&&_, and-true}
 use mathlib.Core.List.{List, [], _∷_, map}
 use mathlib.Core.Path.{_≡_, refl, sym, ap, _∙_}
 use Prim.Native.Nat.{ℕ, zero, suc, _+_, _-_, _≤_, _<_}
 use native.Mathlib.Numerals.{add-one}
 use native.Mathlib.Omega.{arith}
 use borrow.Author.Tests.{eqb-true, eqb-false, eq-eqb, ne-eqb, le-leb, lt-leb}
+use lib.Bits.{bitOr, or-add-and, and-le-r}
 use lib.Dec.{eqb, leb}
 use lib.ListN.{length, set, getD, drop, drop-of-length-le, length-set}
 use lib.Seq.{drop-cons, drop-length, getD-set-same, getD-set-other}
@@ -13,8 +14,29 @@ use Rattle.tables.specs.Limits.{elementLimit, itemLimit}
 use Rattle.tables.specs.Lists.{anyOf, allOf}
 use Rattle.tables.specs.Records.{Item, child, text}
 use Rattle.tables.specs.ModelTable.{cellItem}
-use Rattle.table_test.specs.ModelTest.{rising, sameChild, onceIn}
+use Rattle.table_test.specs.ModelTest.{isZero, rising, sameChild, onceIn}
 use Rattle.tables.proofs.Laws.ModelTable.{cellItem-child, cellItem-text}
+use Rattle.tables.proofs.Laws.Scans.{drop-next, all-end}
+
+-- ---- cells that are all zero
+
+or-zero : (a b : ℕ) → eqb (bitOr a b) 0 ≡ (eqb a 0 && eqb b 0)
+or-zero zero b = refl
+or-zero (suc a) b = rw (ne-eqb (suc a) 0 (λ e. absurd (omega (arith, e)))) (ne-eqb (bitOr (suc a) b) 0 (λ e. absurd (omega (arith, e, or-add-and (suc a) b, and-le-r (suc a) b))))
+
+and-all : (a b c : Bool) → (a && b && c) ≡ (a && elim b [ true ↦ c | false ↦ false ])
+and-all true true c = refl
+and-all true false c = refl
+and-all false b c = refl
+
+-- x has the bits of all cells before j
+module _ (x : ℕ) (s : List ℕ) (j : ℕ) where
+  pub zeros-more : j < length s → (eqb (bitOr x (getD s j 0)) 0 && allOf isZero (drop (j + 1) s)) ≡ (eqb x 0 && allOf isZero (drop j s))
+  unfolding allOf
+  zeros-more h = rw (or-zero x (getD s j 0), drop-next s j 0 h, allOf) (and-all (eqb x 0) (eqb (getD s j 0) 0) (allOf isZero (drop (j + 1) s)))
+
+  pub zeros-end : length s ≤ j → eqb x 0 ≡ (eqb x 0 && allOf isZero (drop j s))
+  zeros-end h = rw (all-end isZero s j h) (sym (and-true (eqb x 0)))
 
 -- ---- entries that do not fall
 

@@ -1,40 +1,34 @@
 -- `table_test::scan::all_zero` meets its contract. Assumes nothing.
-use mathlib.Core.Path.{_≡_, refl, sym, _∙_}
+use mathlib.Core.Bool.{_&&_}
+use mathlib.Core.Path.{_≡_, refl, _∙_}
 use Prim.Native.Nat.{_-_}
 use borrow.Author.Needs.{needs}
-use borrow.Author.Tests.{eq-eqb, ne-eqb}
-use lib.ListN.{length, getD, drop}
+use lib.Dec.{eqb}
+use lib.ListN.{length, drop}
 use Rattle.tables.specs.Lists.{allOf}
 use Rattle.table_test.specs.ModelTest.{isZero}
-use Rattle.tables.proofs.Laws.Scans.{all-more, all-stop, all-end}
+use Rattle.table_test.proofs.Laws.Scans.{zeros-more, zeros-end}
 use Rattle.table_test.proofs.scan.all_zero.Statement.{statement}
 use Rattle.table_test.proofs.scan.all_zero.Tie as tie
 
 abbrev Inv-loop : tie.InvT-loop
-Inv-loop s j₀ j = allOf isZero (drop j s) ≡ allOf isZero s
+Inv-loop s any₀ j₀ any j = (eqb any 0 && allOf isZero (drop j s)) ≡ allOf isZero s
 
 abbrev μ-loop : tie.MeasureT-loop
-μ-loop s j₀ j = length s - j
+μ-loop s any₀ j₀ any j = length s - j
 
 loop-holds : tie.Need-loop-holds Inv-loop μ-loop
 loop-holds c = refl
 
-returns : tie.Need-returns Inv-loop μ-loop
-returns c =
-    let l = c .before .before .before .loop in
-    let s = c .before .before .before .before .args .s .now in
-    sym (all-stop isZero s (l .j) 0 (c .before .before .loop-test .taken) (ne-eqb (getD s (l .j) 0) 0 (c .if1 .taken))) ∙ l .inv
-
 loop-again : tie.Need-loop-again Inv-loop μ-loop
 loop-again c =
-    let l = c .before .before .before .loop in
-    let s = c .before .before .before .before .args .s .now in
-    all-more isZero s (l .j) 0 (c .before .before .loop-test .taken) (eq-eqb (getD s (l .j) 0) 0 (c .if1 .left)) ∙ l .inv
+    let l = c .before .before .loop in
+    zeros-more (l .any) (c .before .before .before .args .s .now) (l .j) (c .before .loop-test .taken) ∙ l .inv
 
-returns-2 : tie.Need-returns-2 Inv-loop μ-loop
-returns-2 c =
+returns : tie.Need-returns Inv-loop μ-loop
+returns c =
     let l = c .before .loop in
-    sym (all-end isZero (c .before .before .args .s .now) (l .j) (c .loop-test .left)) ∙ l .inv
+    zeros-end (l .any) (c .before .before .args .s .now) (l .j) (c .loop-test .left) ∙ l .inv
 
 pub all-zero-spec : {M : Type 1} → statement M
 all-zero-spec =
@@ -45,8 +39,7 @@ all-zero-spec =
     loop-holds
     (λ c. search needs)
     (λ c. search needs)
-    returns
     (λ c. search needs)
     (λ c. search needs)
     loop-again
-    returns-2)
+    returns)
