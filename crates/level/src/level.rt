@@ -37,17 +37,17 @@ ghost use Rattle.changes.specs.Answers.{outcomeIs};
 ghost use Rattle.level.specs.Level.{restrictNew, applyPlan};
 
 // Cells for the plan of any level.
-pub const WORK_SIZE: usize = 5 * ITEM_LIMIT;
+pub const WORK_SIZE: usize = 7 * ITEM_LIMIT;
 
 // Cells for the plan of the level of a and b.
 fn level_room(model: &[u64], a: Element, b: Element) -> usize
     requires { ⌜ GoodModel (now model) ⌝ }
     requires { ⌜ a .0 < countOf (modelOf (now model)) ⌝ }
     requires { ⌜ b .0 < countOf (modelOf (now model)) ⌝ }
-    ensures { λ r. ⌜ r ≡ 2 * length (listOf (modelOf (now (model .entry))) (a .0)) + 3 * length (listOf (modelOf (now (model .entry))) (b .0)) ⌝ }
-    ensures { λ r. ⌜ r ≤ 5 * itemLimit ⌝ }
+    ensures { λ r. ⌜ r ≡ 2 * length (listOf (modelOf (now (model .entry))) (a .0)) + 5 * length (listOf (modelOf (now (model .entry))) (b .0)) ⌝ }
+    ensures { λ r. ⌜ r ≤ 7 * itemLimit ⌝ }
 {
-    2 * list_length(model, a) + 3 * list_length(model, b)
+    2 * list_length(model, a) + 5 * list_length(model, b)
 }
 
 // An A-only element without a set gets the level's files.
@@ -207,7 +207,7 @@ fn merge_apart(
     requires { ⌜ version ≡ versionOf (schemaOf (now schema)) (f .0) ⌝ }
     requires { ⌜ a .0 < length (elementsOf (now elements) .names) ⌝ }
     requires { ⌜ b .0 < length (elementsOf (now elements) .names) ⌝ }
-    requires { ⌜ 2 * length (listOf (modelOf (now model)) (a .0)) + 3 * length (listOf (modelOf (now model)) (b .0)) ≤ 5 * itemLimit ⌝ }
+    requires { ⌜ 2 * length (listOf (modelOf (now model)) (a .0)) + 5 * length (listOf (modelOf (now model)) (b .0)) ≤ 7 * itemLimit ⌝ }
     ensures { λ r. ⌜ outcomeIs r (stateIn (now (model .exit)) (now (log .exit))) ≡ mergeElement (suc depth) (fixedIn (now (deck .entry)) (now (schema .entry)) (now (elements .entry))) (f .0) (setIs files) (a .0) (b .0) (stateIn (now (model .entry)) (now (log .entry))) ⌝ }
     ensures { λ _. ⌜ KeepsState (now (model .entry)) (now (log .entry)) (now (model .exit)) (now (log .exit)) ⌝ }
 {
@@ -249,7 +249,7 @@ fn merge_level(
     requires { ⌜ version ≡ versionOf (schemaOf (now schema)) (f .0) ⌝ }
     requires { ⌜ a .0 < length (elementsOf (now elements) .names) ⌝ }
     requires { ⌜ b .0 < length (elementsOf (now elements) .names) ⌝ }
-    requires { ⌜ 2 * length (listOf (modelOf (now model)) (a .0)) + 3 * length (listOf (modelOf (now model)) (b .0)) ≤ length (now work) ⌝ }
+    requires { ⌜ 2 * length (listOf (modelOf (now model)) (a .0)) + 5 * length (listOf (modelOf (now model)) (b .0)) ≤ length (now work) ⌝ }
     ensures { λ r. ⌜ outcomeIs r (stateIn (now (model .exit)) (now (log .exit))) ≡ mergeElement (suc depth) (fixedIn (now (deck .entry)) (now (schema .entry)) (now (elements .entry))) (f .0) (setIs files) (a .0) (b .0) (stateIn (now (model .entry)) (now (log .entry))) ⌝ }
     ensures { λ _. ⌜ KeepsState (now (model .entry)) (now (log .entry)) (now (model .exit)) (now (log .exit)) ⌝ }
 {

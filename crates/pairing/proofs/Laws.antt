@@ -1,4 +1,5 @@
 pub mod Keys
+pub mod Marks
 pub mod Siblings
 pub mod Actions
 pub mod Spreads

@@ -1,11 +1,11 @@
 -- What the answers of the searches for keys, children and siblings stand for in the rules. Assumes nothing.
 use mathlib.Core.Bool.{Bool, true, false, _&&_}
-use mathlib.Core.List.{List}
+use mathlib.Core.List.{List, [], _∷_}
 use mathlib.Core.Option.{Option, none, some}
 use mathlib.Core.Path.{_≡_}
-use Prim.Native.Nat.{ℕ, _+_, _<_, _≤_}
+use Prim.Native.Nat.{ℕ, _+_, _*_, _%_, _<_, _≤_}
 use lib.Dec.{eqb}
-use lib.ListN.{length, take, drop}
+use lib.ListN.{length, getD, take, drop}
 use Rattle.tables.specs.Lists.{sameList}
 use Rattle.tables.specs.Records.{Element, Name, Place, Model, Fixed, nameOf}
 use Rattle.tables.specs.Texts.{bytesAt, placeOf, placeIn}
@@ -37,6 +37,23 @@ pub record Keys (deck : List ℕ) (r : Key) (o : Option (List ℕ)) : Type 0 whe
 abbrev pub keyBy : Bool → Fixed → Model → Element → Option (List ℕ)
 keyBy true = itemName
 keyBy false = definition
+
+-- ---- marks
+
+-- the mark of bytes behind others of mark h
+unfoldable pub markOf : ℕ → List ℕ → ℕ
+markOf h [] = h
+markOf h (b ∷ bs) = markOf ((h * 33 + b) % 65536) bs
+
+-- a mark of 16 bits: keys of different marks are different
+unfoldable pub keyMark : Option (List ℕ) → ℕ
+keyMark none = 0
+keyMark (some bs) = markOf 0 bs
+
+-- the marks of the elements' keys, in order
+pub record KeyMarks (key : Element → Option (List ℕ)) (l : List Element) (marks : List ℕ) : Type 0 where
+  pub size : length marks ≡ length l
+  pub each : (i : ℕ) → i < length l → getD marks i 0 ≡ keyMark (key (getD l i 0))
 
 -- ---- children
 

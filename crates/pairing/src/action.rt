@@ -16,6 +16,7 @@ use tables::path::Order;
 use tables::path::Path;
 use tables::schema::row_path;
 use tables::text::same_text;
+ghost use mathlib.Core.Bool.{false};
 ghost use mathlib.Core.List.{List};
 ghost use mathlib.Core.Path.{_≡_};
 ghost use Prim.Native.Nat.{ℕ, _<_};
@@ -27,9 +28,10 @@ ghost use Rattle.tables.specs.SchemaTable.{schemaOf, GoodSchema, noSubElement};
 ghost use Rattle.deck.specs.Schema.{rowOfName};
 ghost use Rattle.schema_calls.specs.Calls.{Finds};
 ghost use Rattle.state_test.specs.StateTest.{fixedIn};
-ghost use Rattle.merge_rules.specs.Pairing.{elementText, sameTexts, calcIdentifiablesMerge, calcElementMerge, pathOf, actionByPath, actionOf};
+ghost use Rattle.merge_rules.specs.Pairing.{elementText, itemName, definition, sameKey, sameTexts, calcIdentifiablesMerge, calcElementMerge, pathOf, actionByPath};
 ghost use Rattle.table_test.specs.Fits.{GoodFixed, ModelOver};
-ghost use Rattle.pairing.specs.Actions.{Listed, Acts};
+ghost use Rattle.pairing.specs.Actions.{Listed, Acts, Decides, Searches};
+ghost use Rattle.pairing.specs.Keys.{KeyMarks};
 
 // Both cursors; A with a B sibling; A only; B only; refusal 6 with the A parent.
 pub enum Action {
@@ -38,6 +40,12 @@ pub enum Action {
     AOnly,
     BOnly,
     UnmergeableParent,
+}
+
+// What the cursor children alone decide, or that a B sibling is to be sought.
+pub enum Decision {
+    Act(Action),
+    Search,
 }
 
 fn path_of(schema: &[u64], t: TypeNumber, n: Name) -> Path
@@ -103,7 +111,48 @@ fn same_element_text(
     }
 }
 
-// Names equal, A identifiable.
+// With a cursor child on each side; the A parent is of type t.
+pub fn cursor_action(
+    deck: &[u8],
+    schema: &[u64],
+    elements: &[u64],
+    model: &[u64],
+    t: TypeNumber,
+    a: Element,
+    b: Element,
+) -> Decision
+    requires { ⌜ GoodFixed (now deck) (now schema) (now elements) ⌝ }
+    requires { ⌜ ModelOver (now elements) (now model) ⌝ }
+    requires { ⌜ t .0 < length (schemaOf (now schema) .types) ⌝ }
+    requires { ⌜ a .0 < length (elementsOf (now elements) .names) ⌝ }
+    requires { ⌜ b .0 < length (elementsOf (now elements) .names) ⌝ }
+    ensures { λ r. ⌜ Decides (length (elementsOf (now (elements .entry)) .names)) (fixedIn (now (deck .entry)) (now (schema .entry)) (now (elements .entry))) (modelOf (now (model .entry))) (t .0) (a .0) (b .0) r ⌝ }
+{
+    let m = element_name(elements, a);
+    let n = element_name(elements, b);
+    if m.0 != n.0 {
+        return Decision::Act(action_by_path(deck, schema, elements, t, a, b));
+    }
+    if is_identifiable(deck, schema, elements, model, a) {
+        let key = key_of(deck, schema, elements, model, true, a);
+        let other = key_of(deck, schema, elements, model, true, b);
+        if same_key(deck, key, other) {
+            return Decision::Act(Action::MergeEqual);
+        }
+        return Decision::Search;
+    }
+    let key = key_of(deck, schema, elements, model, false, a);
+    let other = key_of(deck, schema, elements, model, false, b);
+    if same_key(deck, key, other) {
+        if same_element_text(deck, schema, elements, model, a, b) {
+            return Decision::Act(Action::MergeEqual);
+        }
+        return Decision::Act(Action::AOnly);
+    }
+    Decision::Search
+}
+
+// Names equal and keys different, A identifiable.
 fn calc_identifiables_merge(
     deck: &[u8],
     schema: &[u64],
@@ -111,22 +160,18 @@ fn calc_identifiables_merge(
     model: &[u64],
     splittable: bool,
     second: &[u16],
+    names: &[u16],
     a: Element,
-    b: Element,
 ) -> Action
     requires { ⌜ GoodFixed (now deck) (now schema) (now elements) ⌝ }
     requires { ⌜ ModelOver (now elements) (now model) ⌝ }
     requires { ⌜ Listed (length (elementsOf (now elements) .names)) (now second) ⌝ }
+    requires { ⌜ KeyMarks (itemName (fixedIn (now deck) (now schema) (now elements)) (modelOf (now model))) (now second) (now names) ⌝ }
     requires { ⌜ a .0 < length (elementsOf (now elements) .names) ⌝ }
-    requires { ⌜ b .0 < length (elementsOf (now elements) .names) ⌝ }
-    ensures { λ r. ⌜ Acts (length (elementsOf (now (elements .entry)) .names)) r (calcIdentifiablesMerge (fixedIn (now (deck .entry)) (now (schema .entry)) (now (elements .entry))) (modelOf (now (model .entry))) splittable (now (second .entry)) (a .0) (b .0)) ⌝ }
+    ensures { λ r. ⌜ ((b : ℕ) → sameKey (itemName (fixedIn (now (deck .entry)) (now (schema .entry)) (now (elements .entry))) (modelOf (now (model .entry))) (a .0)) (itemName (fixedIn (now (deck .entry)) (now (schema .entry)) (now (elements .entry))) (modelOf (now (model .entry))) b) ≡ false → Acts (length (elementsOf (now (elements .entry)) .names)) r (calcIdentifiablesMerge (fixedIn (now (deck .entry)) (now (schema .entry)) (now (elements .entry))) (modelOf (now (model .entry))) splittable (now (second .entry)) (a .0) b)) ⌝ }
 {
     let key = key_of(deck, schema, elements, model, true, a);
-    let other = key_of(deck, schema, elements, model, true, b);
-    if same_key(deck, key, other) {
-        return Action::MergeEqual;
-    }
-    let found = sibling(deck, schema, elements, model, true, second, a, key);
+    let found = sibling(deck, schema, elements, model, true, second, names, a, key);
     match found {
         Child::Of(c) => Action::MergeUnequal(c),
         Child::Missing => {
@@ -138,65 +183,72 @@ fn calc_identifiables_merge(
     }
 }
 
-// Names equal, A not identifiable.
+// Names equal and keys different, A not identifiable.
 fn calc_element_merge(
     deck: &[u8],
     schema: &[u64],
     elements: &[u64],
     model: &[u64],
     second: &[u16],
+    definitions: &[u16],
     a: Element,
-    b: Element,
 ) -> Action
     requires { ⌜ GoodFixed (now deck) (now schema) (now elements) ⌝ }
     requires { ⌜ ModelOver (now elements) (now model) ⌝ }
     requires { ⌜ Listed (length (elementsOf (now elements) .names)) (now second) ⌝ }
+    requires { ⌜ KeyMarks (definition (fixedIn (now deck) (now schema) (now elements)) (modelOf (now model))) (now second) (now definitions) ⌝ }
     requires { ⌜ a .0 < length (elementsOf (now elements) .names) ⌝ }
-    requires { ⌜ b .0 < length (elementsOf (now elements) .names) ⌝ }
-    ensures { λ r. ⌜ Acts (length (elementsOf (now (elements .entry)) .names)) r (calcElementMerge (fixedIn (now (deck .entry)) (now (schema .entry)) (now (elements .entry))) (modelOf (now (model .entry))) (now (second .entry)) (a .0) (b .0)) ⌝ }
+    ensures { λ r. ⌜ ((b : ℕ) → sameKey (definition (fixedIn (now (deck .entry)) (now (schema .entry)) (now (elements .entry))) (modelOf (now (model .entry))) (a .0)) (definition (fixedIn (now (deck .entry)) (now (schema .entry)) (now (elements .entry))) (modelOf (now (model .entry))) b) ≡ false → Acts (length (elementsOf (now (elements .entry)) .names)) r (calcElementMerge (fixedIn (now (deck .entry)) (now (schema .entry)) (now (elements .entry))) (modelOf (now (model .entry))) (now (second .entry)) (a .0) b)) ⌝ }
 {
     let key = key_of(deck, schema, elements, model, false, a);
-    let other = key_of(deck, schema, elements, model, false, b);
-    if same_key(deck, key, other) {
-        if same_element_text(deck, schema, elements, model, a, b) {
-            return Action::MergeEqual;
-        }
-        return Action::AOnly;
-    }
-    let found = sibling(deck, schema, elements, model, false, second, a, key);
+    let found = sibling(
+        deck,
+        schema,
+        elements,
+        model,
+        false,
+        second,
+        definitions,
+        a,
+        key,
+    );
     match found {
         Child::Of(c) => Action::MergeUnequal(c),
         Child::Missing => Action::AOnly,
     }
 }
 
-// With a cursor child on each side; the A parent is of type t, `second` are the B parent's children.
-pub fn action_of(
+// Where the cursor children do not decide; `second` are the B parent's children, `names` and `definitions` the marks of their keys.
+pub fn search_action(
     deck: &[u8],
     schema: &[u64],
     elements: &[u64],
     model: &[u64],
-    t: TypeNumber,
     splittable: bool,
     second: &[u16],
+    names: &[u16],
+    definitions: &[u16],
     a: Element,
-    b: Element,
 ) -> Action
     requires { ⌜ GoodFixed (now deck) (now schema) (now elements) ⌝ }
     requires { ⌜ ModelOver (now elements) (now model) ⌝ }
-    requires { ⌜ t .0 < length (schemaOf (now schema) .types) ⌝ }
     requires { ⌜ Listed (length (elementsOf (now elements) .names)) (now second) ⌝ }
+    requires { ⌜ KeyMarks (itemName (fixedIn (now deck) (now schema) (now elements)) (modelOf (now model))) (now second) (now names) ⌝ }
+    requires { ⌜ KeyMarks (definition (fixedIn (now deck) (now schema) (now elements)) (modelOf (now model))) (now second) (now definitions) ⌝ }
     requires { ⌜ a .0 < length (elementsOf (now elements) .names) ⌝ }
-    requires { ⌜ b .0 < length (elementsOf (now elements) .names) ⌝ }
-    ensures { λ r. ⌜ Acts (length (elementsOf (now (elements .entry)) .names)) r (actionOf (fixedIn (now (deck .entry)) (now (schema .entry)) (now (elements .entry))) (modelOf (now (model .entry))) (t .0) splittable (now (second .entry)) (a .0) (b .0)) ⌝ }
+    ensures { λ r. ⌜ Searches (length (elementsOf (now (elements .entry)) .names)) (fixedIn (now (deck .entry)) (now (schema .entry)) (now (elements .entry))) (modelOf (now (model .entry))) splittable (now (second .entry)) (a .0) r ⌝ }
 {
-    let m = element_name(elements, a);
-    let n = element_name(elements, b);
-    if m.0 != n.0 {
-        return action_by_path(deck, schema, elements, t, a, b);
-    }
     if is_identifiable(deck, schema, elements, model, a) {
-        return calc_identifiables_merge(deck, schema, elements, model, splittable, second, a, b);
+        return calc_identifiables_merge(
+            deck,
+            schema,
+            elements,
+            model,
+            splittable,
+            second,
+            names,
+            a,
+        );
     }
-    calc_element_merge(deck, schema, elements, model, second, a, b)
+    calc_element_merge(deck, schema, elements, model, second, definitions, a)
 }

@@ -67,7 +67,7 @@ pub fn copy_sides(model: &[u64], a: Element, b: Element, work: &mut [u16]) -> Si
     requires { ⌜ GoodModel (now model) ⌝ }
     requires { ⌜ a .0 < countOf (modelOf (now model)) ⌝ }
     requires { ⌜ b .0 < countOf (modelOf (now model)) ⌝ }
-    requires { ⌜ 2 * length (listOf (modelOf (now model)) (a .0)) + 3 * length (listOf (modelOf (now model)) (b .0)) ≤ length (now work) ⌝ }
+    requires { ⌜ 2 * length (listOf (modelOf (now model)) (a .0)) + 5 * length (listOf (modelOf (now model)) (b .0)) ≤ length (now work) ⌝ }
     ensures { λ r. ⌜ Laid (modelOf (now (model .entry))) (a .0) (b .0) r (now (work .exit)) ⌝ }
 {
     let rows = copy_rows(model, a, work);

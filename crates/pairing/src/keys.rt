@@ -18,12 +18,12 @@ ghost use lib.ListN.{length, getD};
 ghost use Rattle.tables.specs.Records.{enumNumber, textOf, listOf};
 ghost use Rattle.tables.specs.ElementsTable.{elementsOf, GoodElements};
 ghost use Rattle.tables.specs.ModelTable.{modelOf};
-ghost use Rattle.tables.specs.Texts.{valueOf};
+ghost use Rattle.tables.specs.Texts.{valueOf, placeOf};
 ghost use Rattle.schema_calls.specs.Calls.{Finds};
 ghost use Rattle.state_test.specs.StateTest.{fixedIn};
 ghost use Rattle.merge_rules.specs.Pairing.{soleText, stringOf, soleString, identifier, identifiable, itemName, definitionChild, definition};
 ghost use Rattle.table_test.specs.Fits.{GoodFixed, ModelOver};
-ghost use Rattle.pairing.specs.Keys.{Keys, keyBy, FindsChild};
+ghost use Rattle.pairing.specs.Keys.{Keys, keyBy, FindsChild, spanOf};
 
 // An item name or a definition: a string of the deck.
 pub enum Key {
@@ -205,4 +205,14 @@ pub fn key_of(
         return item_name(deck, schema, elements, model, e);
     }
     definition(deck, schema, elements, model, e)
+}
+
+// The place of a key; of a missing one, no byte.
+pub fn span_of(key: Key) -> Place
+    ensures { λ r. ⌜ placeOf r ≡ spanOf key ⌝ }
+{
+    match key {
+        Key::At(p) => p,
+        Key::Missing => Place { start: 0, size: 0 },
+    }
 }

@@ -2,6 +2,7 @@
 pub mod action;
 pub mod children;
 pub mod keys;
+pub mod marks;
 pub mod plan;
 pub mod sibling;
 pub mod walk;

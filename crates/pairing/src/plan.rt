@@ -1,5 +1,6 @@
 // A level's plan in the scratch slice. For each child of A a row of two cells, its number and its mate's number + 1, or 0; then the B-only
-// list, rows of two cells, element and position; behind it, during the walk, the numbers of B's children.
+// list, rows of two cells, element and position; behind it, during the walk, the numbers of B's children and the marks
+// of their keys.
 use crate::action::Action;
 use tables::numbers::Element;
 ghost use mathlib.Core.Path.{_≡_};
@@ -8,7 +9,12 @@ ghost use lib.ListN.{length, getD, set};
 ghost use Rattle.tables.specs.Limits.{elementLimit, itemLimit};
 ghost use Rattle.merge_rules.specs.Pairing.{firstUsedTwice};
 ghost use Rattle.pairing.specs.Plans.{planUpTo, planIn, plannedIs, orUsedTwice, RowsIn, PlanIn};
-ghost use Rattle.pairing.specs.Walks.{secondChildren, StepIn, WorkRoom, Counted, Advances, Imports, Finishes};
+ghost use Rattle.pairing.specs.Walks.{secondChildren, StepIn, WorkRoom, usedAgain, Counted, Advances, Imports, Finishes};
+
+// What `uses` holds of an element: 0 if it has no use, IMPORTED, or PAIRED if it is in a pair; 1 more if it has more than one use.
+const IMPORTED: u8 = 2;
+
+const PAIRED: u8 = 4;
 
 // So many rows of A and of the B-only list; refusal 8 with the B child; refusal 6.
 pub enum Planned {
@@ -31,72 +37,61 @@ pub struct Cursors {
     pub new: usize,
 }
 
-// One use more of element e.
-fn count_use(uses: &mut [u16], e: usize)
+// One use more of element e, an import or a pair.
+fn count_use(uses: &mut [u8], e: usize, kind: u8)
     requires { ⌜ e < length (now uses) ⌝ }
-    requires { ⌜ getD (now uses) e 0 < 65535 ⌝ }
-    ensures { λ _. ⌜ now (uses .exit) ≡ set (now (uses .entry)) e (getD (now (uses .entry)) e 0 + 1) ⌝ }
+    requires { ⌜ kind < 255 ⌝ }
+    ensures { λ _. ⌜ now (uses .exit) ≡ set (now (uses .entry)) e (usedAgain kind (getD (now (uses .entry)) e 0)) ⌝ }
 {
-    uses[e] = uses[e] + 1;
+    if uses[e] == 0 {
+        uses[e] = kind;
+        return;
+    }
+    uses[e] = kind + 1;
 }
 
 // The child of A in row i is paired with e.
-fn pair_row(work: &mut [u16], pairs: &mut [u16], i: usize, e: usize)
+fn pair_row(work: &mut [u16], uses: &mut [u8], i: usize, e: usize)
     requires { ⌜ 2 * i + 1 < length (now work) ⌝ }
     requires { ⌜ e < elementLimit ⌝ }
-    requires { ⌜ e < length (now pairs) ⌝ }
-    requires { ⌜ getD (now pairs) e 0 < 65535 ⌝ }
+    requires { ⌜ e < length (now uses) ⌝ }
     ensures { λ _. ⌜ now (work .exit) ≡ set (now (work .entry)) (2 * i + 1) (e + 1) ⌝ }
-    ensures { λ _. ⌜ now (pairs .exit) ≡ set (now (pairs .entry)) e (getD (now (pairs .entry)) e 0 + 1) ⌝ }
+    ensures { λ _. ⌜ now (uses .exit) ≡ set (now (uses .entry)) e (usedAgain 4 (getD (now (uses .entry)) e 0)) ⌝ }
 {
     let at = 2 * i + 1;
     work[at] = e as u16 + 1;
-    count_use(pairs, e);
+    count_use(uses, e, PAIRED);
 }
 
 // B-only: the cursor child of B at this position, unless it is already paired. Gives the length of the B-only list.
-fn import_next(
-    work: &mut [u16],
-    pairs: &[u16],
-    imports: &mut [u16],
-    s: Sides,
-    c: Cursors,
-    position: usize,
-) -> usize
+fn import_next(work: &mut [u16], uses: &mut [u8], s: Sides, c: Cursors, position: usize) -> usize
     requires { ⌜ WorkRoom s (now work) (c .a) (c .b) (c .new) ⌝ }
-    requires { ⌜ Counted (planUpTo (s .rows) (c .a) (c .new) (now work)) (now pairs) (now imports) ⌝ }
+    requires { ⌜ Counted (planUpTo (s .rows) (c .a) (c .new) (now work)) (now uses) ⌝ }
     requires { ⌜ s .start + c .b < s .end ⌝ }
     requires { ⌜ position ≤ itemLimit ⌝ }
-    ensures { λ r. ⌜ Imports s position (now (work .entry)) c (now (work .exit)) (now (pairs .entry)) (now (imports .exit)) r ⌝ }
+    ensures { λ r. ⌜ Imports s position (now (work .entry)) c (now (work .exit)) (now (uses .exit)) r ⌝ }
 {
     let at = s.start + c.b;
     let k = c.new;
     let e = work[at] as usize;
-    if pairs[e] != 0 {
+    if PAIRED <= uses[e] {
         return k;
     }
     let row = 2 * (s.rows + k);
     let second = row + 1;
     work[row] = e as u16;
     work[second] = position as u16;
-    count_use(imports, e);
+    count_use(uses, e, IMPORTED);
     k + 1
 }
 
 // One step of the walk.
-pub fn advance(
-    work: &mut [u16],
-    pairs: &mut [u16],
-    imports: &mut [u16],
-    s: Sides,
-    c: Cursors,
-    act: Action,
-) -> Cursors
+pub fn advance(work: &mut [u16], uses: &mut [u8], s: Sides, c: Cursors, act: Action) -> Cursors
     requires { ⌜ WorkRoom s (now work) (c .a) (c .b) (c .new) ⌝ }
-    requires { ⌜ Counted (planUpTo (s .rows) (c .a) (c .new) (now work)) (now pairs) (now imports) ⌝ }
+    requires { ⌜ Counted (planUpTo (s .rows) (c .a) (c .new) (now work)) (now uses) ⌝ }
     requires { ⌜ c .a < s .rows ⌝ }
     requires { ⌜ StepIn s (c .b) act ⌝ }
-    ensures { λ r. ⌜ Advances s act (now (work .entry)) c (now (work .exit)) (now (pairs .exit)) (now (imports .exit)) r ⌝ }
+    ensures { λ r. ⌜ Advances s act (now (work .entry)) c (now (work .exit)) (now (uses .exit)) r ⌝ }
     ensures { λ r. ⌜ c .a + c .b < r .a + r .b ⌝ }
 {
     let i = c.a;
@@ -104,7 +99,7 @@ pub fn advance(
         Action::MergeEqual => {
             let at = s.start + c.b;
             let e = work[at] as usize;
-            pair_row(work, pairs, i, e);
+            pair_row(work, uses, i, e);
             Cursors {
                 a: i + 1,
                 b: c.b + 1,
@@ -113,7 +108,7 @@ pub fn advance(
         }
         Action::MergeUnequal(m) => {
             let e = m.0;
-            pair_row(work, pairs, i, e);
+            pair_row(work, uses, i, e);
             Cursors {
                 a: i + 1,
                 b: c.b,
@@ -126,7 +121,7 @@ pub fn advance(
             new: c.new,
         },
         Action::BOnly => {
-            let new = import_next(work, pairs, imports, s, c, i);
+            let new = import_next(work, uses, s, c, i);
             Cursors {
                 a: i,
                 b: c.b + 1,
@@ -140,33 +135,32 @@ pub fn advance(
 // Left-over B at this position. Gives the length of the B-only list.
 pub fn import_rest(
     work: &mut [u16],
-    pairs: &[u16],
-    imports: &mut [u16],
+    uses: &mut [u8],
     s: Sides,
     c: Cursors,
     position: usize,
 ) -> usize
     requires { ⌜ WorkRoom s (now work) (c .a) (c .b) (c .new) ⌝ }
-    requires { ⌜ Counted (planUpTo (s .rows) (c .a) (c .new) (now work)) (now pairs) (now imports) ⌝ }
+    requires { ⌜ Counted (planUpTo (s .rows) (c .a) (c .new) (now work)) (now uses) ⌝ }
     requires { ⌜ c .a ≡ s .rows ⌝ }
     requires { ⌜ position ≤ itemLimit ⌝ }
-    ensures { λ r. ⌜ Finishes s position (now (work .entry)) c (now (work .exit)) (now (pairs .entry)) (now (imports .exit)) r ⌝ }
+    ensures { λ r. ⌜ Finishes s position (now (work .entry)) c (now (work .exit)) (now (uses .exit)) r ⌝ }
 {
     let a = c.a;
     let n = s.end - s.start;
     let mut b = c.b;
     let mut new = c.new;
     while b < n {
-        new = import_next(work, pairs, imports, s, Cursors { a, b, new }, position);
+        new = import_next(work, uses, s, Cursors { a, b, new }, position);
         b += 1;
     }
     new
 }
 
 // The plan, or the first child of B that it uses twice.
-pub fn used_twice(work: &[u16], pairs: &[u16], imports: &[u16], s: Sides, new: usize) -> Planned
+pub fn used_twice(work: &[u16], uses: &[u8], s: Sides, new: usize) -> Planned
     requires { ⌜ WorkRoom s (now work) (s .rows) (s .end - s .start) new ⌝ }
-    requires { ⌜ Counted (planIn (s .rows) new (now work)) (now pairs) (now imports) ⌝ }
+    requires { ⌜ Counted (planIn (s .rows) new (now work)) (now uses) ⌝ }
     ensures { λ r. ⌜ plannedIs r (now (work .entry)) ≡ orUsedTwice (planIn (s .rows) new (now (work .entry))) (firstUsedTwice (planIn (s .rows) new (now (work .entry))) (secondChildren s (now (work .entry)))) ⌝ }
     ensures { λ r. ⌜ ((n : ℕ) → RowsIn n (now (work .entry)) (s .rows) new → PlanIn n r (now (work .entry))) ⌝ }
 {
@@ -175,7 +169,7 @@ pub fn used_twice(work: &[u16], pairs: &[u16], imports: &[u16], s: Sides, new: u
     while j < n {
         let at = s.start + j;
         let e = work[at] as usize;
-        if 1 < pairs[e] + imports[e] {
+        if uses[e] % 2 == 1 {
             return Planned::UsedTwice(Element(e));
         }
         j += 1;

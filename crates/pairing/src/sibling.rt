@@ -2,22 +2,22 @@
 use crate::keys::Child;
 use crate::keys::Key;
 use crate::keys::key_of;
+use crate::keys::span_of;
+use crate::marks::key_mark;
 use tables::elements::element_name;
 use tables::numbers::Element;
 use tables::numbers::Name;
-use tables::text::Place;
 use tables::text::same_string;
 ghost use mathlib.Core.Path.{_≡_};
 ghost use Prim.Native.Nat.{_<_};
 ghost use lib.ListN.{length};
 ghost use Rattle.tables.specs.ElementsTable.{elementsOf};
 ghost use Rattle.tables.specs.ModelTable.{modelOf};
-ghost use Rattle.tables.specs.Texts.{placeOf};
 ghost use Rattle.state_test.specs.StateTest.{fixedIn};
 ghost use Rattle.merge_rules.specs.Pairing.{sameKey, sibling};
 ghost use Rattle.table_test.specs.Fits.{GoodFixed, ModelOver};
 ghost use Rattle.pairing.specs.Actions.{Listed};
-ghost use Rattle.pairing.specs.Keys.{keyIs, KeyIn, Keys, keyBy, FindsChild, hasKey, spanOf, Candidates};
+ghost use Rattle.pairing.specs.Keys.{keyIs, KeyIn, Keys, keyBy, FindsChild, KeyMarks, hasKey, spanOf, Candidates};
 
 // Where the bytes of a sibling's key start, if its name, and the key's kind and size, are those sought.
 enum Candidate {
@@ -39,16 +39,6 @@ pub fn same_key(deck: &[u8], a: Key, b: Key) -> bool
             Key::At(_) => false,
             Key::Missing => true,
         },
-    }
-}
-
-// The place of a key; of a missing one, no byte.
-fn span_of(key: Key) -> Place
-    ensures { λ r. ⌜ placeOf r ≡ spanOf key ⌝ }
-{
-    match key {
-        Key::At(p) => p,
-        Key::Missing => Place { start: 0, size: 0 },
     }
 }
 
@@ -90,7 +80,7 @@ fn candidate_at(
     }
 }
 
-// Sibling by sibling and byte by byte; `key` is A's.
+// Sibling by sibling and byte by byte, where the marks are equal; `key` is A's.
 pub fn sibling(
     deck: &[u8],
     schema: &[u64],
@@ -98,17 +88,20 @@ pub fn sibling(
     model: &[u64],
     by_name: bool,
     second: &[u16],
+    marks: &[u16],
     a: Element,
     key: Key,
 ) -> Child
     requires { ⌜ GoodFixed (now deck) (now schema) (now elements) ⌝ }
     requires { ⌜ ModelOver (now elements) (now model) ⌝ }
     requires { ⌜ Listed (length (elementsOf (now elements) .names)) (now second) ⌝ }
+    requires { ⌜ KeyMarks (keyBy «by_name» (fixedIn (now deck) (now schema) (now elements)) (modelOf (now model))) (now second) (now marks) ⌝ }
     requires { ⌜ a .0 < length (elementsOf (now elements) .names) ⌝ }
     requires { ⌜ Keys (now deck) key (keyBy «by_name» (fixedIn (now deck) (now schema) (now elements)) (modelOf (now model)) (a .0)) ⌝ }
     ensures { λ r. ⌜ FindsChild (length (elementsOf (now (elements .entry)) .names)) r (sibling (fixedIn (now (deck .entry)) (now (schema .entry)) (now (elements .entry))) (keyBy «by_name» (fixedIn (now (deck .entry)) (now (schema .entry)) (now (elements .entry))) (modelOf (now (model .entry)))) (now (second .entry)) (a .0)) ⌝ }
 {
     let n = element_name(elements, a);
+    let mark = key_mark(deck, key);
     let span = span_of(key);
     let start = span.start;
     let size = span.size;
@@ -117,8 +110,12 @@ pub fn sibling(
         if second.len() <= k {
             break Child::Missing;
         }
-        let b = Element(second[k] as usize);
+        let at = k;
         k += 1;
+        if marks[at] != mark {
+            continue;
+        }
+        let b = Element(second[at] as usize);
         let Candidate::From(s) = candidate_at(deck, schema, elements, model, by_name, n, key, b)
         else {
             continue;

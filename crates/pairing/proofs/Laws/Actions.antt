@@ -28,8 +28,10 @@ use Rattle.pairing.specs.declared.keys.Child.{Child}
 use Rattle.pairing.specs.declared.keys.Child.the-variants.{Of, Missing as NoChild}
 use Rattle.pairing.specs.declared.action.Action as program
 use Rattle.pairing.specs.declared.action.Action.the-variants.{MergeEqual, MergeUnequal, AOnly, BOnly, UnmergeableParent}
-use Rattle.pairing.specs.Actions.{Acts}
-use Rattle.pairing.specs.Keys.{keyIs, Keys, FindsChild}
+use Rattle.pairing.specs.declared.action.Decision.{Decision}
+use Rattle.pairing.specs.declared.action.Decision.the-variants.{Act, Search}
+use Rattle.pairing.specs.Actions.{Acts, Sought, Decides}
+use Rattle.pairing.specs.Keys.{keyIs, Keys, keyBy, FindsChild}
 use Rattle.pairing.proofs.Laws.Keys.{child-at, child-within, child-missing}
 
 -- ---- names differ
@@ -104,65 +106,89 @@ module _ (x : Fixed) (m : Model) (a b : ℕ) {r s : Found} (f : Finds (enumNumbe
   unfolding elementText sameTexts
   texts-none h k = sym (λ i. sameTexts x (found-missing f h i) (found-missing g k i))
 
--- ---- names equal
+-- ---- the search
+
+module _ (n : ℕ) (x : Fixed) (m : Model) (splittable : Bool) (bs : List ℕ) (a b : ℕ) (d : sameKey (itemName x m a) (itemName x m b) ≡ false) {r : Child} (f : FindsChild n r (sibling x (itemName x m) bs a)) where
+  pub named-sibling : {c : numbers.Element} → r ≡ Of c → Acts n (MergeUnequal c) (calcIdentifiablesMerge x m splittable bs a b)
+  unfolding calcIdentifiablesMerge
+  named-sibling g = record { is = rw (calcIdentifiablesMerge, d, child-at f g); within = child-within f g }
+
+  pub named-split : r ≡ NoChild → splittable ≡ true → Acts n AOnly (calcIdentifiablesMerge x m splittable bs a b)
+  unfolding calcIdentifiablesMerge
+  named-split g s = record { is = rw (calcIdentifiablesMerge, d, child-missing f g, s); within = tt }
+
+  pub named-unmergeable : r ≡ NoChild → splittable ≡ false → Acts n UnmergeableParent (calcIdentifiablesMerge x m splittable bs a b)
+  unfolding calcIdentifiablesMerge
+  named-unmergeable g s = record { is = rw (calcIdentifiablesMerge, d, child-missing f g, s); within = tt }
+
+module _ (n : ℕ) (x : Fixed) (m : Model) (bs : List ℕ) (a b : ℕ) (d : sameKey (definition x m a) (definition x m b) ≡ false) {r : Child} (f : FindsChild n r (sibling x (definition x m) bs a)) where
+  pub defined-sibling : {c : numbers.Element} → r ≡ Of c → Acts n (MergeUnequal c) (calcElementMerge x m bs a b)
+  unfolding calcElementMerge
+  defined-sibling g = record { is = rw (calcElementMerge, d, child-at f g); within = child-within f g }
+
+  pub defined-none : r ≡ NoChild → Acts n AOnly (calcElementMerge x m bs a b)
+  unfolding calcElementMerge
+  defined-none g = record { is = rw (calcElementMerge, d, child-missing f g); within = tt }
+
+keys-other : (x : Fixed) (m : Model) (a b : ℕ) → Sought x m a b → {i : Bool} → i ≡ identifiable x m a → sameKey (keyBy i x m a) (keyBy i x m b) ≡ false
+keys-other x m a b d ei = rw ei (d .key)
+
+module _ {n : ℕ} (x : Fixed) (m : Model) (t : ℕ) (splittable : Bool) (bs : List ℕ) (a b : ℕ) (d : Sought x m a b) {i : Bool} (ei : i ≡ identifiable x m a) {r : program.Action} where
+  pub search-named : i ≡ true → (sameKey (itemName x m a) (itemName x m b) ≡ false → Acts n r (calcIdentifiablesMerge x m splittable bs a b)) → Acts n r (actionOf x m t splittable bs a b)
+  unfolding actionOf
+  search-named k s =
+      let o = s (rw k at (keys-other x m a b d ei)) in
+      record { is = o .is ∙ rw (actionOf, eq-eqb (nameOf x a) (nameOf x b) (d .name), sym ei ∙ k); within = o .within }
+
+  pub search-defined : i ≡ false → (sameKey (definition x m a) (definition x m b) ≡ false → Acts n r (calcElementMerge x m bs a b)) → Acts n r (actionOf x m t splittable bs a b)
+  unfolding actionOf
+  search-defined k s =
+      let o = s (rw k at (keys-other x m a b d ei)) in
+      record { is = o .is ∙ rw (actionOf, eq-eqb (nameOf x a) (nameOf x b) (d .name), sym ei ∙ k); within = o .within }
+
+-- ---- what the cursor children decide
 
 keys-same : {deck : List ℕ} {j k : Key} {o p : Option (List ℕ)} → Keys deck j o → Keys deck k p → {r : Bool} → r ≡ sameKey (keyIs deck j) (keyIs deck k) → sameKey o p ≡ r
 keys-same f g e = sym (e ∙ (λ i. sameKey (f .is i) (g .is i)))
 
-module _ (n : ℕ) (x : Fixed) (m : Model) (splittable : Bool) (bs : List ℕ) (a b : ℕ) {j k : Key} (fa : Keys (x .deck) j (itemName x m a)) (fb : Keys (x .deck) k (itemName x m b))
-    {o : Bool} (e : o ≡ sameKey (keyIs (x .deck) j) (keyIs (x .deck) k)) where
-  pub names-equal : o ≡ true → Acts n MergeEqual (calcIdentifiablesMerge x m splittable bs a b)
-  unfolding calcIdentifiablesMerge
-  names-equal h = record { is = rw (calcIdentifiablesMerge, keys-same fa fb e ∙ h); within = tt }
-
-  module _ (h : o ≡ false) {r : Child} (f : FindsChild n r (sibling x (itemName x m) bs a)) where
-    pub named-sibling : {c : numbers.Element} → r ≡ Of c → Acts n (MergeUnequal c) (calcIdentifiablesMerge x m splittable bs a b)
-    unfolding calcIdentifiablesMerge
-    named-sibling g = record { is = rw (calcIdentifiablesMerge, keys-same fa fb e ∙ h, child-at f g); within = child-within f g }
-
-    pub named-split : r ≡ NoChild → splittable ≡ true → Acts n AOnly (calcIdentifiablesMerge x m splittable bs a b)
-    unfolding calcIdentifiablesMerge
-    named-split g s = record { is = rw (calcIdentifiablesMerge, keys-same fa fb e ∙ h, child-missing f g, s); within = tt }
-
-    pub named-unmergeable : r ≡ NoChild → splittable ≡ false → Acts n UnmergeableParent (calcIdentifiablesMerge x m splittable bs a b)
-    unfolding calcIdentifiablesMerge
-    named-unmergeable g s = record { is = rw (calcIdentifiablesMerge, keys-same fa fb e ∙ h, child-missing f g, s); within = tt }
-
-module _ (n : ℕ) (x : Fixed) (m : Model) (bs : List ℕ) (a b : ℕ) {j k : Key} (fa : Keys (x .deck) j (definition x m a)) (fb : Keys (x .deck) k (definition x m b))
-    {o : Bool} (e : o ≡ sameKey (keyIs (x .deck) j) (keyIs (x .deck) k)) where
-  module _ (h : o ≡ true) {r : Bool} (er : r ≡ sameTexts x (elementText x m a) (elementText x m b)) where
-    pub texts-equal : r ≡ true → Acts n MergeEqual (calcElementMerge x m bs a b)
-    unfolding calcElementMerge
-    texts-equal g = record { is = rw (calcElementMerge, keys-same fa fb e ∙ h, sym er ∙ g); within = tt }
-
-    pub texts-unequal : r ≡ false → Acts n AOnly (calcElementMerge x m bs a b)
-    unfolding calcElementMerge
-    texts-unequal g = record { is = rw (calcElementMerge, keys-same fa fb e ∙ h, sym er ∙ g); within = tt }
-
-  module _ (h : o ≡ false) {r : Child} (f : FindsChild n r (sibling x (definition x m) bs a)) where
-    pub defined-sibling : {c : numbers.Element} → r ≡ Of c → Acts n (MergeUnequal c) (calcElementMerge x m bs a b)
-    unfolding calcElementMerge
-    defined-sibling g = record { is = rw (calcElementMerge, keys-same fa fb e ∙ h, child-at f g); within = child-within f g }
-
-    pub defined-none : r ≡ NoChild → Acts n AOnly (calcElementMerge x m bs a b)
-    unfolding calcElementMerge
-    defined-none g = record { is = rw (calcElementMerge, keys-same fa fb e ∙ h, child-missing f g); within = tt }
-
--- ---- the whole
-
 names-by : (x : Fixed) (a b : ℕ) {na nb : ℕ} → na ≡ nameOf x a → nb ≡ nameOf x b → eqb (nameOf x a) (nameOf x b) ≡ eqb na nb
 names-by x a b ea eb = sym (λ i. eqb (ea i) (eb i))
 
-module _ {n : ℕ} (x : Fixed) (m : Model) (t : ℕ) (splittable : Bool) (bs : List ℕ) (a b : ℕ) {na nb : ℕ} (ea : na ≡ nameOf x a) (eb : nb ≡ nameOf x b) {r : program.Action} where
-  pub act-path : (na ≡ nb → ⊥) → Acts n r (actionByPath x t a b) → Acts n r (actionOf x m t splittable bs a b)
+module _ (n : ℕ) (x : Fixed) (m : Model) (t a b : ℕ) {na nb : ℕ} (ea : na ≡ nameOf x a) (eb : nb ≡ nameOf x b) where
+  pub decide-path : (na ≡ nb → ⊥) → {r : program.Action} → Acts n r (actionByPath x t a b) → Decides n x m t a b (Act r)
   unfolding actionOf
-  act-path h s = record { is = s .is ∙ rw (actionOf, names-by x a b ea eb ∙ ne-eqb na nb h); within = s .within }
+  decide-path h s =
+      record { is = λ splittable bs. record { is = s .is ∙ rw (actionOf, names-by x a b ea eb ∙ ne-eqb na nb h); within = s .within } }
 
-  module _ (h : na ≡ nb) {i : Bool} (ei : i ≡ identifiable x m a) where
-    pub act-identifiable : i ≡ true → Acts n r (calcIdentifiablesMerge x m splittable bs a b) → Acts n r (actionOf x m t splittable bs a b)
-    unfolding actionOf
-    act-identifiable k s = record { is = s .is ∙ rw (actionOf, names-by x a b ea eb ∙ eq-eqb na nb h, sym ei ∙ k); within = s .within }
+  module _ (h : na ≡ nb) {i : Bool} (ei : i ≡ identifiable x m a) {j k : Key} (fa : Keys (x .deck) j (keyBy i x m a)) (fb : Keys (x .deck) k (keyBy i x m b))
+      {o : Bool} (e : o ≡ sameKey (keyIs (x .deck) j) (keyIs (x .deck) k)) where
+    pub decide-search : o ≡ false → Decides n x m t a b Search
+    decide-search g = record { is = record { name = sym ea ∙ h ∙ eb; key = rw (← ei) (keys-same fa fb e ∙ g) } }
 
-    pub act-other : i ≡ false → Acts n r (calcElementMerge x m bs a b) → Acts n r (actionOf x m t splittable bs a b)
-    unfolding actionOf
-    act-other k s = record { is = s .is ∙ rw (actionOf, names-by x a b ea eb ∙ eq-eqb na nb h, sym ei ∙ k); within = s .within }
+    module _ (g : o ≡ true) where
+      pub decide-named : i ≡ true → Decides n x m t a b (Act MergeEqual)
+      unfolding actionOf calcIdentifiablesMerge
+      decide-named l =
+          let same = rw l at (keys-same fa fb e ∙ g) in
+          record { is = λ splittable bs. record { is = rw (actionOf, names-by x a b ea eb ∙ eq-eqb na nb h, sym ei ∙ l, calcIdentifiablesMerge, same); within = tt } }
+
+      module _ (l : i ≡ false) {r : Bool} (er : r ≡ sameTexts x (elementText x m a) (elementText x m b)) where
+        pub decide-texts : r ≡ true → Decides n x m t a b (Act MergeEqual)
+        unfolding actionOf calcElementMerge
+        decide-texts p =
+            let same = rw l at (keys-same fa fb e ∙ g) in
+            record { is = λ splittable bs. record { is = rw (actionOf, names-by x a b ea eb ∙ eq-eqb na nb h, sym ei ∙ l, calcElementMerge, same, sym er ∙ p); within = tt } }
+
+        pub decide-first : r ≡ false → Decides n x m t a b (Act AOnly)
+        unfolding actionOf calcElementMerge
+        decide-first p =
+            let same = rw l at (keys-same fa fb e ∙ g) in
+            record { is = λ splittable bs. record { is = rw (actionOf, names-by x a b ea eb ∙ eq-eqb na nb h, sym ei ∙ l, calcElementMerge, same, sym er ∙ p); within = tt } }
+
+-- one step decides, or both
+module _ {n : ℕ} {x : Fixed} {m : Model} {t a b : ℕ} {d : Decision} (decides : Decides n x m t a b d) where
+  pub decided : {r : program.Action} → d ≡ Act r → (splittable : Bool) (bs : List ℕ) → Acts n r (actionOf x m t splittable bs a b)
+  decided e = (rw e at decides) .is
+
+  pub sought : d ≡ Search → Sought x m a b
+  sought e = (rw e at decides) .is

@@ -6,7 +6,7 @@ use Prim.Native.Nat.{ℕ, zero, suc, _+_, _-_, _*_, _≤_, _<_}
 use native.Mathlib.Omega.{arith}
 use borrow.Rule.Slice.PartMut.{midOf, putMid, same-len-mid, take-put}
 use lib.ListN.{length, getD, take, drop, length-take, length-drop}
-use lib.Seq.{getD-take, length-take-le, take-append-le, drop-at}
+use lib.Seq.{length-take-le, take-append-le, drop-at}
 use Rattle.tables.specs.Limits.{itemLimit, elementLimit}
 use Rattle.tables.specs.Lists.{firstOf}
 use Rattle.tables.specs.ModelTable.{countOf, modelOf, ItemBelow, GoodModel}
@@ -22,7 +22,7 @@ use Rattle.pairing.specs.Actions.{Listed}
 use Rattle.pairing.specs.Plans.{spread, rowElement, rowValue, restrictionIn, pairIn, planIn, rowElements, LevelPlan, levelPlan, orUsedTwice, checkedPlan, planLevel, RowsIn, Copied, CopiedRows}
 use Rattle.table_test.specs.Fits.{GoodFixed}
 use Rattle.pairing.specs.Walks.{firstChildren, secondChildren, walkOn, WorkRoom, Ranged, Laid}
-use Rattle.pairing.proofs.Laws.Rows.{restricted, not-mated, elements-same, length-first, getD-first, length-second}
+use Rattle.pairing.proofs.Laws.Rows.{restricted, not-mated, elements-same, length-first, getD-first, length-second, front-at}
 use Rattle.pairing.proofs.Laws.Spreads.{spread-none, spread-same, length-singles, getD-singles}
 use Rattle.pairing.proofs.Laws.Walks.{noPlan, no-second}
 
@@ -66,8 +66,7 @@ module _ (w part : List ℕ) (start : ℕ) (fits : start ≤ length w) where
   both = putMid start (length w - start) w part
 
   front-same : (c : ℕ) → c < start → getD both c 0 ≡ getD w c 0
-  front-same c h =
-      sym (getD-take start both c 0 h) ∙ ap (λ (l : List ℕ). getD l c 0) (take-put start (length w - start) w part fits) ∙ getD-take start w c 0 h
+  front-same = front-at start w both (take-put start (length w - start) w part fits)
 
   back-same : (n : ℕ) → n ≤ length part → take n (drop start both) ≡ take n part
   back-same n h =
@@ -76,7 +75,7 @@ module _ (w part : List ℕ) (start : ℕ) (fits : start ≤ length w) where
 module _ (xs : List ℕ) (good : GoodModel xs) (a b : Element) (ha : a < countOf (modelOf xs)) (hb : b < countOf (modelOf xs)) where
   pub laid : (w part : List ℕ) (rows lb n : ℕ) → CopiedRows w rows (childrenOf (modelOf xs) a) → lb ≡ length (listOf (modelOf xs) b)
       → Copied part n (childrenOf (modelOf xs) b) → length part ≡ length (midOf (2 * (rows + lb)) (length w - 2 * (rows + lb)) w)
-      → 2 * length (listOf (modelOf xs) a) + 3 * length (listOf (modelOf xs) b) ≤ length w
+      → 2 * length (listOf (modelOf xs) a) + 5 * length (listOf (modelOf xs) b) ≤ length w
       → Laid (modelOf xs) a b (record { rows = rows; start = 2 * (rows + lb); end = 2 * (rows + lb) + n })
       (putMid (2 * (rows + lb)) (length w - 2 * (rows + lb)) w part)
   laid w part rows lb n first same second size big =

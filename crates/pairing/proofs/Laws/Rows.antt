@@ -5,14 +5,17 @@ use mathlib.Core.Path.{_≡_, refl, sym, ap, _∙_}
 use Prim.Native.Nat.{ℕ, zero, suc, _+_, _-_, _*_, _≤_, _<_}
 use native.Mathlib.Numerals.{add-one}
 use native.Mathlib.Omega.{arith}
-use lib.ListN.{length, getD, set, take, drop, length-set, length-drop}
+use borrow.Author.Tests.{ltb-true, ltb-false}
+use lib.Dec.{ltb}
+use lib.ListN.{length, getD, set, take, drop, length-set, length-drop, List·getD-eq-default}
 use lib.Seq.{getD-set-same, getD-set-other, getD-take, getD-drop, length-take-le, ext-getD}
 use Rattle.tables.specs.Records.{Element}
+use Rattle.tables.proofs.Laws.Cases.{bool-split}
 use Rattle.merge_rules.specs.Pairing.{Pair, NewItem, Plan}
 use Rattle.pairing.specs.declared.plan.Sides.{Sides}
 use Rattle.pairing.specs.Plans.{spread, restrictionOf, pairOf, rowElement, rowValue, restrictionIn, pairIn, importIn, planUpTo, rowElements}
 use Rattle.pairing.specs.Walks.{firstChildren, secondChildren}
-use Rattle.pairing.proofs.Laws.Spreads.{spread-more, spread-last, spread-few, spread-same, length-singles, getD-singles}
+use Rattle.pairing.proofs.Laws.Spreads.{spread-more, spread-last, spread-same, length-singles, getD-singles}
 use Rattle.pairing.proofs.Laws.Walks.{plusRestriction, plusImport, plusPair}
 
 -- ---- one row
@@ -35,16 +38,6 @@ mated a (suc v) n = let e : suc v - 1 ≡ v = omega arith in rw e
 pub not-mated : (a v : ℕ) → v ≡ 0 → pairOf a v ≡ []
 unfolding pairOf
 not-mated a v e = rw e
-
-few-restrictions : (a v : ℕ) → length (restrictionOf a v) ≤ 1
-unfolding restrictionOf
-few-restrictions a zero = omega arith
-few-restrictions a (suc v) = omega arith
-
-few-pairs : (a v : ℕ) → length (pairOf a v) ≤ 1
-unfolding pairOf
-few-pairs a zero = omega arith
-few-pairs a (suc v) = omega arith
 
 -- ---- one row more
 
@@ -69,12 +62,6 @@ module _ (w : List ℕ) (na i k : ℕ) where
 
   pub row-import : planUpTo na i (k + 1) w ≡ plusImport (planUpTo na i k w) (rowElement w (na + k)) (rowValue w (na + k))
   row-import = rw (spread-more (importIn w) na k)
-
-  pub few-pairs-in : length (planUpTo na i k w .pairs) ≤ i
-  few-pairs-in = spread-few (pairIn w) (λ m. few-pairs (rowElement w m) (rowValue w m)) 0 i
-
-  pub few-imports-in : length (planUpTo na i k w .imports) ≤ k
-  few-imports-in = spread-few (importIn w) (λ m. omega arith) na k
 
 -- ---- stores
 
@@ -135,19 +122,55 @@ length-first s w = length-singles (rowElement w) 0 (s .rows)
 pub getD-first : (s : Sides) (w : List ℕ) (i : ℕ) → i < s .rows → getD (firstChildren s w) i 0 ≡ rowElement w i
 getD-first s w i h = let e : 0 + i ≡ i = omega arith in getD-singles (rowElement w) 0 (s .rows) i 0 h ∙ rw e
 
-module _ (s : Sides) (w : List ℕ) (ends : s .end ≤ length w) where
+module _ (w : List ℕ) (a n : ℕ) where
+  pub length-part : a + n ≤ length w → length (take n (drop a w)) ≡ n
+  length-part h = length-take-le n (drop a w) (rw length-drop (omega arith))
+
+  pub getD-part : (i : ℕ) → i < n → getD (take n (drop a w)) i 0 ≡ getD w (a + i) 0
+  getD-part i h = getD-take n (drop a w) i 0 h ∙ getD-drop a w i 0
+
+module _ (s : Sides) (w : List ℕ) (ends : s .end + 2 * (s .end - s .start) ≤ length w) where
   pub length-second : length (secondChildren s w) ≡ s .end - s .start
   length-second = length-take-le (s .end - s .start) (drop (s .start) w) (rw length-drop (omega arith))
 
   pub getD-second : (j : ℕ) → s .start + j < s .end → getD (secondChildren s w) j 0 ≡ getD w (s .start + j) 0
-  getD-second j h = getD-take (s .end - s .start) (drop (s .start) w) j 0 (omega arith) ∙ getD-drop (s .start) w j 0
+  getD-second j h = getD-part w (s .start) (s .end - s .start) j (omega arith)
 
-  pub second-kept : (w′ : List ℕ) (lo hi : ℕ) → CellsKept w w′ lo hi → hi ≤ s .start → secondChildren s w′ ≡ secondChildren s w
-  second-kept w′ lo hi h k =
-      let ends′ : s .end ≤ length w′ = omega (arith, h .size) in
-      let n : length (secondChildren s w′) ≡ s .end - s .start = length-take-le (s .end - s .start) (drop (s .start) w′) (rw length-drop (omega arith)) in
-      ext-getD 0 (secondChildren s w′) (secondChildren s w) (n ∙ sym length-second)
-      (λ j l.
-      let j′ : j < s .end - s .start = omega (arith, n) in
-      getD-take (s .end - s .start) (drop (s .start) w′) j 0 j′ ∙ getD-drop (s .start) w′ j 0 ∙ h .outside (s .start + j) (λ a b. omega arith)
-      ∙ sym (getD-second j (omega arith)))
+-- all from B's children on, where only cells before them have changed
+pub behind-kept : (s : Sides) (w w′ : List ℕ) (lo hi : ℕ) → CellsKept w w′ lo hi → hi ≤ s .start → drop (s .start) w′ ≡ drop (s .start) w
+behind-kept s w w′ lo hi h k =
+    ext-getD 0 (drop (s .start) w′) (drop (s .start) w) (rw (length-drop, length-drop, h .size))
+    (λ j l. getD-drop (s .start) w′ j 0 ∙ h .outside (s .start + j) (λ a b. omega arith) ∙ sym (getD-drop (s .start) w j 0))
+
+pub second-behind : (s : Sides) (w w′ : List ℕ) → drop (s .start) w′ ≡ drop (s .start) w → secondChildren s w′ ≡ secondChildren s w
+second-behind s w w′ e = ap (take (s .end - s .start)) e
+
+-- ---- a front that is kept
+
+module _ (t : ℕ) (w w′ : List ℕ) (front : take t w′ ≡ take t w) where
+  pub front-at : (c : ℕ) → c < t → getD w′ c 0 ≡ getD w c 0
+  front-at c h = sym (getD-take t w′ c 0 h) ∙ ap (λ (l : List ℕ). getD l c 0) front ∙ getD-take t w c 0 h
+
+  pub part-kept : length w′ ≡ length w → t ≤ length w → (a n : ℕ) → a + n ≤ t → take n (drop a w′) ≡ take n (drop a w)
+  part-kept size fits a n h =
+      let long : length (take n (drop a w′)) ≡ n = length-part w′ a n (omega arith) in
+      ext-getD 0 (take n (drop a w′)) (take n (drop a w)) (long ∙ sym (length-part w a n (omega arith)))
+      (λ i l. getD-part w′ a n i (omega arith) ∙ front-at (a + i) (omega arith) ∙ sym (getD-part w a n i (omega arith)))
+
+pub second-front : (s : Sides) (w w′ : List ℕ) → s .start ≤ s .end → s .end ≤ length w → length w′ ≡ length w → take (s .end) w′ ≡ take (s .end) w
+    → secondChildren s w′ ≡ secondChildren s w
+second-front s w w′ order fits size front = part-kept (s .end) w w′ front size fits (s .start) (s .end - s .start) (omega arith)
+
+-- cells from t on may have changed
+pub front-kept : (t : ℕ) (w w′ : List ℕ) → take t w′ ≡ take t w → length w′ ≡ length w → CellsKept w w′ t (length w)
+front-kept t w w′ front size =
+    record {
+      size = size;
+      outside = λ c n.
+          bool-split (ltb c t) (λ h. front-at t w w′ front c (ltb-true c t h))
+          (λ h.
+          bool-split (ltb c (length w)) (λ k. absurd (n (ltb-false c t h) (ltb-true c (length w) k)))
+          (λ k.
+          let l = ltb-false c (length w) k in
+          List·getD-eq-default w′ 0 {n = c} (omega arith) ∙ sym (List·getD-eq-default w 0 {n = c} l)));
+    }

@@ -4,7 +4,7 @@ use mathlib.Core.Path.{_≡_, refl, sym, ap, _∙_}
 use Prim.Native.Nat.{ℕ, zero, suc, _+_, _-_, _≤_, _<_}
 use native.Mathlib.Numerals.{add-one}
 use native.Mathlib.Omega.{arith}
-use lib.ListN.{length, getD, length-append}
+use lib.ListN.{length, getD}
 use Rattle.pairing.specs.Plans.{spread}
 
 module _ {A : Type 0} (f : ℕ → List A) where
@@ -30,12 +30,6 @@ module _ {A : Type 0} (f : ℕ → List A) where
   pub spread-done : (i e : ℕ) → e ≤ i → spread f i (e - i) ≡ []
   unfolding spread
   spread-done i e h = let k : e - i ≡ 0 = omega arith in rw k
-
-  -- at most one entry for each number
-  pub spread-few : ((m : ℕ) → length (f m) ≤ 1) → (i n : ℕ) → length (spread f i n) ≤ n
-  unfolding spread
-  spread-few h i zero = omega arith
-  spread-few h i (suc n) = rw length-append (omega (arith, h i, spread-few h (suc i) n))
 
   -- no entry for any
   pub spread-none : (i n : ℕ) → ((m : ℕ) → i ≤ m → m < i + n → f m ≡ []) → spread f i n ≡ []

@@ -18,11 +18,10 @@ use Rattle.pairing.specs.declared.plan.Sides.{Sides}
 use Rattle.pairing.specs.declared.plan.Cursors.{Cursors}
 use Rattle.pairing.specs.declared.action.Action as program
 use Rattle.pairing.specs.declared.action.Action.the-variants.{MergeEqual, MergeUnequal, BOnly, UnmergeableParent}
-use Rattle.pairing.specs.Plans.{rowElement, planUpTo, levelPlan, childUsedTwice, orUsedTwice}
-use Rattle.pairing.specs.Walks.{firstChildren, secondChildren, nextAction, StepIn, pairUses, importUses, Counted, WorkRoom, Ranged, Walks, StepPasses, Imports}
+use Rattle.pairing.specs.Plans.{rowElement, levelPlan, childUsedTwice, orUsedTwice}
+use Rattle.pairing.specs.Walks.{firstChildren, secondChildren, nextAction, StepIn, WorkRoom, Ranged, Walks, StepPasses, Imports}
 use Rattle.pairing.proofs.Laws.Planning.{next-here, next-behind, passes-second, passes-rest}
-use Rattle.pairing.proofs.Laws.Rows.{few-pairs-in, few-imports-in, length-first, getD-first, length-second, getD-second}
-use Rattle.pairing.proofs.Laws.Uses.{pairs-few, imports-few}
+use Rattle.pairing.proofs.Laws.Rows.{length-first, getD-first, length-second, getD-second}
 
 -- ---- what an action names
 
@@ -39,16 +38,6 @@ module _ (s : Sides) (j : ℕ) (o : program.Action) (h : StepIn s j o) where
   pub step-never : o ≡ UnmergeableParent → ⊥
   step-never e = rw e at h
 
--- ---- counts
-
-module _ (s : Sides) (w pairs imports : List ℕ) (i j k : ℕ) (room : WorkRoom s w i j k) (counted : Counted (planUpTo (s .rows) i k w) pairs imports) (e : ℕ) (small : e < elementLimit) where
-  pub few-paired : getD pairs e 0 ≤ itemLimit
-  few-paired = omega (arith, counted .paired e small, pairs-few (planUpTo (s .rows) i k w) e, few-pairs-in w (s .rows) i k, room .first, room .fewFirst)
-
-  pub few-imported : getD imports e 0 ≤ itemLimit
-  few-imported =
-      omega (arith, counted .imported e small, imports-few (planUpTo (s .rows) i k w) e, few-imports-in w (s .rows) i k, room .new, room .second, room .fewSecond)
-
 -- ---- the cursors
 
 module _ (s : Sides) (w : List ℕ) (i j k : ℕ) (room : WorkRoom s w i j k) where
@@ -62,16 +51,16 @@ module _ (s : Sides) (w : List ℕ) (i j k : ℕ) (room : WorkRoom s w i j k) wh
   next-past act l = next-behind act (firstChildren s w) (secondChildren s w) i j (omega (arith, length-second s w (room .within)))
 
   -- B only in the walk
-  pub walks-second : (w′ pairs imports : List ℕ) (k′ : ℕ) → i < s .rows
+  pub walks-second : (w′ used : List ℕ) (k′ : ℕ) → i < s .rows
       → Walks s (λ (act : Element → Element → Action) (end : ℕ). StepPasses act end (firstChildren s w) (secondChildren s w) i j i) (λ (n : ℕ). i ≤ itemLimit)
-      w i j k w′ pairs imports i (j + 1) k′
+      w i j k w′ used i (j + 1) k′
       → Walks s (λ (act : Element → Element → Action) (end : ℕ). bOnly ≡ nextAction act (firstChildren s w) (secondChildren s w) i j) (λ (n : ℕ). Unit {0})
-      w i j k w′ pairs imports i (j + 1) k′
-  walks-second w′ pairs imports k′ h b =
+      w i j k w′ used i (j + 1) k′
+  walks-second w′ used k′ h b =
       record {
         room = b .room;
         counted = b .counted;
-        second = b .second;
+        behind = b .behind;
         ranged = λ n q r. b .ranged n (omega (arith, room .fewFirst)) r;
         plans = λ act end whole q p.
             b .plans act end whole (passes-second act end (firstChildren s w) (secondChildren s w) i j (omega (arith, length-first s w)) q) p;
@@ -96,7 +85,7 @@ child-ranged n s w i j k m room r h =
     let l : m < length (secondChildren s w) = omega (arith, length-second s w (room .within)) in
     omega (arith, r .second m l, getD-second s w (room .within) m h)
 
-module _ (s : Sides) (w : List ℕ) (p : Plan) (j : ℕ) (ends : s .end ≤ length w) where
+module _ (s : Sides) (w : List ℕ) (p : Plan) (j : ℕ) (ends : s .end + 2 * (s .end - s .start) ≤ length w) where
   abbrev twice : Element → Bool
   twice b = ltb 1 (uses p b)
 
@@ -122,7 +111,3 @@ module _ (s : Sides) (w : List ℕ) (p : Plan) (j : ℕ) (ends : s .end ≤ leng
       let n = length-second s w ends in
       let k : none ≡ r = sym (first-end twice (secondChildren s w) j (omega arith)) ∙ e in
       rw (← k)
-
-pub uses-counted : (p : Plan) (pairs imports : List ℕ) (e : ℕ) → Counted p pairs imports → e < elementLimit → uses p e ≡ getD pairs e 0 + getD imports e 0
-unfolding uses pairUses importUses
-uses-counted p pairs imports e c h = rw (c .paired e h, c .imported e h)

@@ -1,9 +1,10 @@
--- Uses of an element in a plan, and arrays that count them. Assumes nothing.
+-- Uses of an element in a plan, and the array that tells of them. Assumes nothing.
 use mathlib.Core.Bool.{Bool, true, false}
 use mathlib.Core.List.{List, [], _∷_, _++_}
 use mathlib.Core.Logic.{⊎-elim}
 use mathlib.Core.Path.{_≡_, refl, sym, ap, _∙_}
-use Prim.Native.Nat.{ℕ, zero, suc, _+_, _≤_, _<_}
+use Prim.Native.Nat.{ℕ, zero, suc, _+_, _%_, _≤_, _<_}
+use native.Mathlib.Numerals.{add-one}
 use native.Mathlib.Omega.{arith}
 use borrow.Author.Tests.{eq-eqb, ne-eqb}
 use lib.Dec.{eqb}
@@ -12,9 +13,9 @@ use lib.Seq.{getD-set-same, getD-set-other}
 use Rattle.tables.specs.Limits.{elementLimit}
 use Rattle.tables.specs.Lists.{keep}
 use Rattle.tables.specs.Records.{Element}
-use Rattle.merge_rules.specs.Pairing.{Pair, NewItem, Plan}
+use Rattle.merge_rules.specs.Pairing.{Pair, NewItem, Plan, uses}
 use Rattle.merge_rules.proofs.Laws.Cases.{same-or-other}
-use Rattle.pairing.specs.Walks.{pairUses, importUses, Counted}
+use Rattle.pairing.specs.Walks.{pairUses, importUses, useOf, usedAgain, Counted}
 use Rattle.pairing.proofs.Laws.Walks.{plusRestriction, plusImport, plusPair}
 use Rattle.tables.proofs.Laws.Cases.{bool-split}
 
@@ -50,20 +51,6 @@ module _ {A : Type 0} (f : A → Element) where
   uses-other : (l : List A) (x : A) (e : Element) → (f x ≡ e → ⊥) → usesBy (l ++ (x ∷ [])) e ≡ usesBy l e
   uses-other l x e h = keep-false (λ (a : A). eqb (f a) e) l x (ne-eqb (f x) e h)
 
-  -- one entry more, and one use more of its element
-  marked : (l : List A) (x : A) (counts : List ℕ) → length counts ≡ elementLimit → f x < elementLimit
-      → ((e : ℕ) → e < elementLimit → getD counts e 0 ≡ usesBy l e)
-      → (e : ℕ) → e < elementLimit → getD (set counts (f x) (getD counts (f x) 0 + 1)) e 0 ≡ usesBy (l ++ (x ∷ [])) e
-  marked l x counts size small h e k =
-      ⊎-elim
-      (λ (q : f x ≡ e).
-      let i : f x < length counts = omega arith in
-      let s : getD (set counts (f x) (getD counts (f x) 0 + 1)) (f x) 0 ≡ usesBy l (f x) + 1 =
-      getD-set-same counts (f x) (getD counts (f x) 0 + 1) 0 i ∙ ap (λ (n : ℕ). n + 1) (h (f x) small) in
-      rw (← q) (s ∙ sym (uses-here l x (f x) refl)))
-      (λ (q : f x ≡ e → ⊥). getD-set-other counts (f x) e _ 0 (λ (r : e ≡ f x). q (sym r)) ∙ h e k ∙ sym (uses-other l x e q))
-      (same-or-other (f x) e)
-
 -- ---- uses in a plan
 
 pub pair-here : (p : Plan) (a b e : Element) → b ≡ e → pairUses (plusPair p a b) e ≡ pairUses p e + 1
@@ -74,35 +61,122 @@ pub pair-other : (p : Plan) (a b e : Element) → (b ≡ e → ⊥) → pairUses
 unfolding pairUses
 pair-other p a b e h = uses-other (λ (q : Pair). q .b) (p .pairs) (record { a = a; b = b }) e h
 
-pub pairs-few : (p : Plan) (e : Element) → pairUses p e ≤ length (p .pairs)
-unfolding pairUses
-pairs-few p e = keep-few (λ (q : Pair). eqb (q .b) e) (p .pairs)
-
-pub imports-few : (p : Plan) (e : Element) → importUses p e ≤ length (p .imports)
+import-here : (p : Plan) (b at e : Element) → b ≡ e → importUses (plusImport p b at) e ≡ importUses p e + 1
 unfolding importUses
-imports-few p e = keep-few (λ (i : NewItem). eqb (i .element) e) (p .imports)
+import-here p b at e h = uses-here (λ (i : NewItem). i .element) (p .imports) (record { element = b; position = at }) e h
 
-module _ (p : Plan) (pairs imports : List ℕ) (c : Counted p pairs imports) where
-  pub counted-restriction : (a : Element) → Counted (plusRestriction p a) pairs imports
-  unfolding pairUses importUses
-  counted-restriction a = record { pairSize = c .pairSize; importSize = c .importSize; paired = c .paired; imported = c .imported }
+import-other : (p : Plan) (b at e : Element) → (b ≡ e → ⊥) → importUses (plusImport p b at) e ≡ importUses p e
+unfolding importUses
+import-other p b at e h = uses-other (λ (i : NewItem). i .element) (p .imports) (record { element = b; position = at }) e h
 
-  pub counted-pair : (a b : Element) → b < elementLimit → Counted (plusPair p a b) (set pairs b (getD pairs b 0 + 1)) imports
+-- ---- the number that tells of them
+
+pub used-first : (kind u : ℕ) → u ≡ 0 → usedAgain kind u ≡ kind
+unfolding usedAgain
+used-first kind u e = rw e
+
+pub used-more : (kind u : ℕ) → (u ≡ 0 → ⊥) → usedAgain kind u ≡ kind + 1
+unfolding usedAgain
+used-more kind zero n = absurd (n refl)
+used-more kind (suc u) n = refl
+
+paired-again : (p i : ℕ) → usedAgain 4 (useOf p i) ≡ useOf (p + 1) i
+unfolding useOf usedAgain
+paired-again zero zero = refl
+paired-again zero (suc zero) = refl
+paired-again zero (suc (suc i)) = refl
+paired-again (suc zero) zero = refl
+paired-again (suc zero) (suc i) = refl
+paired-again (suc (suc p)) i = rw (add-one (suc (suc p)))
+
+imported-again : (i : ℕ) → usedAgain 2 (useOf 0 i) ≡ useOf 0 (i + 1)
+unfolding useOf usedAgain
+imported-again zero = refl
+imported-again (suc zero) = refl
+imported-again (suc (suc i)) = rw (add-one (suc (suc i)))
+
+use-paired : (p i : ℕ) → 4 ≤ useOf p i → p ≡ 0 → ⊥
+unfolding useOf
+use-paired zero zero h e = omega arith
+use-paired zero (suc zero) h e = omega arith
+use-paired zero (suc (suc i)) h e = omega arith
+use-paired (suc p) i h e = omega arith
+
+use-unpaired : (p i : ℕ) → useOf p i < 4 → p ≡ 0
+unfolding useOf
+use-unpaired zero i h = refl
+use-unpaired (suc zero) zero h = omega arith
+use-unpaired (suc zero) (suc i) h = omega arith
+use-unpaired (suc (suc p)) i h = omega arith
+
+use-twice : (p i : ℕ) → useOf p i % 2 ≡ 1 → 1 < p + i
+unfolding useOf
+use-twice zero zero h = omega arith
+use-twice zero (suc zero) h = omega arith
+use-twice zero (suc (suc i)) h = omega arith
+use-twice (suc zero) zero h = omega arith
+use-twice (suc zero) (suc i) h = omega arith
+use-twice (suc (suc p)) i h = omega arith
+
+use-once : (p i : ℕ) → (useOf p i % 2 ≡ 1 → ⊥) → p + i ≤ 1
+unfolding useOf
+use-once zero zero h = omega arith
+use-once zero (suc zero) h = omega arith
+use-once zero (suc (suc i)) h = absurd (h refl)
+use-once (suc zero) zero h = omega arith
+use-once (suc zero) (suc i) h = absurd (h refl)
+use-once (suc (suc p)) i h = absurd (h refl)
+
+-- ---- the array
+
+-- one cell changed
+told : (f g : Element → ℕ) (used : List ℕ) (b v : ℕ) → b < length used → v ≡ g b → ((e : Element) → (b ≡ e → ⊥) → g e ≡ f e)
+    → (e : ℕ) → getD used e 0 ≡ f e → getD (set used b v) e 0 ≡ g e
+told f g used b v h here other e is =
+    ⊎-elim (λ (q : b ≡ e). rw (← q) (getD-set-same used b v 0 h ∙ here))
+    (λ (q : b ≡ e → ⊥). getD-set-other used b e v 0 (λ (r : e ≡ b). q (sym r)) ∙ is ∙ sym (other e q)) (same-or-other b e)
+
+abbrev useIn : Plan → Element → ℕ
+useIn p e = useOf (pairUses p e) (importUses p e)
+
+module _ (p : Plan) (used : List ℕ) (c : Counted p used) where
+  pub counted-restriction : (a : Element) → Counted (plusRestriction p a) used
   unfolding pairUses importUses
+  counted-restriction a = record { size = c .size; is = c .is }
+
+  pub counted-pair : (a b : Element) → b < elementLimit → Counted (plusPair p a b) (set used b (usedAgain 4 (getD used b 0)))
+  unfolding importUses
   counted-pair a b h =
       record {
-        pairSize = simp length-set (c .pairSize);
-        importSize = c .importSize;
-        paired = marked (λ (q : Pair). q .b) (p .pairs) (record { a = a; b = b }) pairs (c .pairSize) h (c .paired);
-        imported = c .imported;
+        size = simp length-set (c .size);
+        is = λ e k.
+            told (useIn p) (useIn (plusPair p a b)) used b _ (omega (arith, c .size)) (rw (c .is b h, pair-here p a b b refl) (paired-again _ _))
+            (λ x q. rw (pair-other p a b x q)) e (c .is e k);
       }
 
-  pub counted-import : (b : Element) (at : ℕ) → b < elementLimit → Counted (plusImport p b at) pairs (set imports b (getD imports b 0 + 1))
-  unfolding pairUses importUses
-  counted-import b at h =
+  pub counted-import : (b : Element) (at : ℕ) → b < elementLimit → pairUses p b ≡ 0 → Counted (plusImport p b at) (set used b (usedAgain 2 (getD used b 0)))
+  unfolding pairUses
+  counted-import b at h none =
       record {
-        pairSize = c .pairSize;
-        importSize = simp length-set (c .importSize);
-        paired = c .paired;
-        imported = marked (λ (i : NewItem). i .element) (p .imports) (record { element = b; position = at }) imports (c .importSize) h (c .imported);
+        size = simp length-set (c .size);
+        is = λ e k.
+            told (useIn p) (useIn (plusImport p b at)) used b _ (omega (arith, c .size)) (rw (c .is b h, import-here p b at b refl, none) (imported-again _))
+            (λ x q. rw (import-other p b at x q)) e (c .is e k);
       }
+
+  -- ---- what a cell tells
+
+  module _ (e : Element) (h : e < elementLimit) where
+    pub counted-paired : 4 ≤ getD used e 0 → pairUses p e ≡ 0 → ⊥
+    counted-paired k = use-paired (pairUses p e) (importUses p e) (rw (c .is e h) at k)
+
+    pub counted-unpaired : getD used e 0 < 4 → pairUses p e ≡ 0
+    counted-unpaired k = use-unpaired (pairUses p e) (importUses p e) (rw (c .is e h) at k)
+
+    pub counted-twice : getD used e 0 % 2 ≡ 1 → 1 < uses p e
+    unfolding uses pairUses importUses
+    counted-twice k = use-twice (pairUses p e) (importUses p e) (rw (c .is e h) at k)
+
+    pub counted-once : (getD used e 0 % 2 ≡ 1 → ⊥) → uses p e ≤ 1
+    unfolding uses pairUses importUses
+    counted-once k = use-once (pairUses p e) (importUses p e) (rw (c .is e h) at k)

@@ -4,7 +4,7 @@ use mathlib.Core.Logic.{⊎-elim}
 use mathlib.Core.Path.{_≡_, refl, sym, ap, _∙_}
 use Prim.Native.Nat.{ℕ, _+_, _-_, _*_, _≤_, _<_}
 use native.Mathlib.Omega.{arith}
-use lib.ListN.{length, getD, set}
+use lib.ListN.{length, getD, set, drop}
 use lib.Seq.{getD-set-same}
 use Rattle.tables.specs.Limits.{elementLimit, itemLimit}
 use Rattle.tables.specs.Records.{Element}
@@ -16,10 +16,10 @@ use Rattle.pairing.specs.declared.action.Action as program
 use Rattle.pairing.specs.declared.action.Action.the-variants.{MergeEqual, MergeUnequal, AOnly, BOnly}
 use Rattle.pairing.specs.Actions.{Listed, actionIs, ActionIn}
 use Rattle.pairing.specs.Plans.{rowElement, rowValue, planUpTo, RowsIn}
-use Rattle.pairing.specs.Walks.{firstChildren, secondChildren, nextAction, pairUses, Counted, Planning, WorkRoom, Ranged, Walks, StepPasses, Advances, Imports}
+use Rattle.pairing.specs.Walks.{firstChildren, secondChildren, nextAction, usedAgain, Counted, Planning, WorkRoom, Ranged, Walks, StepPasses, Advances, Imports}
 use Rattle.pairing.proofs.Laws.Planning.{planning-equal, planning-unequal, planning-first, planning-skip, planning-import, passes-second}
-use Rattle.pairing.proofs.Laws.Rows.{row-restriction, row-pair, row-import, CellsKept, kept-one, kept-two, two-first, two-second, plan-kept, elements-kept, length-first, getD-first, length-second, getD-second, second-kept}
-use Rattle.pairing.proofs.Laws.Uses.{counted-restriction, counted-pair, counted-import}
+use Rattle.pairing.proofs.Laws.Rows.{row-restriction, row-pair, row-import, CellsKept, kept-one, kept-two, two-first, two-second, plan-kept, elements-kept, length-first, getD-first, length-second, getD-second, behind-kept, second-behind}
+use Rattle.pairing.proofs.Laws.Uses.{counted-restriction, counted-pair, counted-import, counted-paired, counted-unpaired}
 use Rattle.pairing.proofs.Laws.Walks.{plusRestriction, plusImport, plusPair}
 
 abbrev Asked : Type 1
@@ -28,19 +28,19 @@ Asked = (Element → Element → Action) → ℕ → Type 0
 -- ---- none, and one after the other
 
 module _ (s : Sides) (P : Asked) (Q : ℕ → Type 0) (w : List ℕ) (i j k : ℕ) where
-  pub walks-none : (pairs imports : List ℕ) → WorkRoom s w i j k → Counted (planUpTo (s .rows) i k w) pairs imports → Walks s P Q w i j k w pairs imports i j k
-  walks-none pairs imports room counted =
-      record { room = room; counted = counted; second = refl; ranged = λ n q r. r; plans = λ act end whole q p. p }
+  pub walks-none : (used : List ℕ) → WorkRoom s w i j k → Counted (planUpTo (s .rows) i k w) used → Walks s P Q w i j k w used i j k
+  walks-none used room counted =
+      record { room = room; counted = counted; behind = refl; ranged = λ n q r. r; plans = λ act end whole q p. p }
 
   -- as far as one, and on from there
-  pub walks-then : (P′ : Asked) (Q′ : ℕ → Type 0) (w₁ pairs₁ imports₁ : List ℕ) (i₁ j₁ k₁ : ℕ) (w₂ pairs₂ imports₂ : List ℕ) (i₂ j₂ k₂ : ℕ)
-      → Walks s P Q w i j k w₁ pairs₁ imports₁ i₁ j₁ k₁ → Walks s P′ Q′ w₁ i₁ j₁ k₁ w₂ pairs₂ imports₂ i₂ j₂ k₂
-      → ((act : Element → Element → Action) (end : ℕ) → P act end → P′ act end) → ((n : ℕ) → Q n → Q′ n) → Walks s P Q w i j k w₂ pairs₂ imports₂ i₂ j₂ k₂
-  walks-then P′ Q′ w₁ pairs₁ imports₁ i₁ j₁ k₁ w₂ pairs₂ imports₂ i₂ j₂ k₂ a b p q =
+  pub walks-then : (P′ : Asked) (Q′ : ℕ → Type 0) (w₁ used₁ : List ℕ) (i₁ j₁ k₁ : ℕ) (w₂ used₂ : List ℕ) (i₂ j₂ k₂ : ℕ)
+      → Walks s P Q w i j k w₁ used₁ i₁ j₁ k₁ → Walks s P′ Q′ w₁ i₁ j₁ k₁ w₂ used₂ i₂ j₂ k₂
+      → ((act : Element → Element → Action) (end : ℕ) → P act end → P′ act end) → ((n : ℕ) → Q n → Q′ n) → Walks s P Q w i j k w₂ used₂ i₂ j₂ k₂
+  walks-then P′ Q′ w₁ used₁ i₁ j₁ k₁ w₂ used₂ i₂ j₂ k₂ a b p q =
       record {
         room = b .room;
         counted = b .counted;
-        second = b .second ∙ a .second;
+        behind = b .behind ∙ a .behind;
         ranged = λ n h r. b .ranged n (q n h) (a .ranged n h r);
         plans = λ act end whole h l. b .plans act end whole (p act end h) (a .plans act end whole h l);
       }
@@ -52,7 +52,7 @@ moved act end whole i j e f g w = rw (e, f, g) w
 
 -- ---- the ways
 
-module _ (s : Sides) (w pairs imports : List ℕ) (i j k : ℕ) (room : WorkRoom s w i j k) (counted : Counted (planUpTo (s .rows) i k w) pairs imports) where
+module _ (s : Sides) (w used : List ℕ) (i j k : ℕ) (room : WorkRoom s w i j k) (counted : Counted (planUpTo (s .rows) i k w) used) where
   -- the cursor child of B
   pub cursor-second : s .start + j < s .end → getD (secondChildren s w) j 0 ≡ getD w (s .start + j) 0
   cursor-second h = getD-second s w (room .within) j h
@@ -92,8 +92,11 @@ module _ (s : Sides) (w pairs imports : List ℕ) (i j k : ℕ) (room : WorkRoom
     pair-first : firstChildren s pairing ≡ firstChildren s w
     pair-first = elements-kept w pairing (2 * i + 1) (2 * i + 1 + 1) pair-kept (s .rows) (λ m a b c. omega arith)
 
+    pair-behind : drop (s .start) pairing ≡ drop (s .start) w
+    pair-behind = behind-kept s w pairing (2 * i + 1) (2 * i + 1 + 1) pair-kept (omega (arith, room .behind))
+
     pair-second : secondChildren s pairing ≡ secondChildren s w
-    pair-second = second-kept s w (room .within) pairing (2 * i + 1) (2 * i + 1 + 1) pair-kept (omega (arith, room .behind))
+    pair-second = second-behind s w pairing pair-behind
 
     pair-room : (j′ : ℕ) → j ≤ j′ → s .start + j′ ≤ s .end → WorkRoom s pairing (i + 1) j′ k
     pair-room j′ a b =
@@ -109,8 +112,8 @@ module _ (s : Sides) (w pairs imports : List ℕ) (i j k : ℕ) (room : WorkRoom
           unpaired = λ m l n. pair-kept .outside (2 * m + 1) (λ p q. omega arith) ∙ room .unpaired m (omega arith) n;
         }
 
-    pair-counted : Counted (planUpTo (s .rows) (i + 1) k pairing) (set pairs e (getD pairs e 0 + 1)) imports
-    pair-counted = rw pair-plan (counted-pair (planUpTo (s .rows) i k w) pairs imports counted (rowElement w i) e small)
+    pair-counted : Counted (planUpTo (s .rows) (i + 1) k pairing) (set used e (usedAgain 4 (getD used e 0)))
+    pair-counted = rw pair-plan (counted-pair (planUpTo (s .rows) i k w) used counted (rowElement w i) e small)
 
     pair-ranged : (n : ℕ) → e < n → Ranged n s w k → Ranged n s pairing k
     pair-ranged n below r =
@@ -135,12 +138,12 @@ module _ (s : Sides) (w pairs imports : List ℕ) (i j k : ℕ) (room : WorkRoom
         → ((act : Element → Element → Action) (end : ℕ) (whole : Walked) → P act end
         → Planning act end whole (planUpTo (s .rows) i k w) (firstChildren s w) (secondChildren s w) i j
         → Planning act end whole (plusPair (planUpTo (s .rows) i k w) (getD (firstChildren s w) i 0) e) (firstChildren s w) (secondChildren s w) (i + 1) j′)
-        → Walks s P Q w i j k pairing (set pairs e (getD pairs e 0 + 1)) imports (i + 1) j′ k
+        → Walks s P Q w i j k pairing (set used e (usedAgain 4 (getD used e 0))) (i + 1) j′ k
     pair-walks P Q j′ a b below plans =
         record {
           room = pair-room j′ a b;
           counted = pair-counted;
-          second = pair-second;
+          behind = pair-behind;
           ranged = λ n q r. pair-ranged n (below n q r) r;
           plans = λ act end whole q p.
               moved act end whole (i + 1) j′
@@ -150,7 +153,7 @@ module _ (s : Sides) (w pairs imports : List ℕ) (i j k : ℕ) (room : WorkRoom
   -- both cursors pass
   pub walks-equal : i < s .rows → s .start + j < s .end → (e : ℕ) → e ≡ getD w (s .start + j) 0
       → Walks s (λ (act : Element → Element → Action) (end : ℕ). mergeEqual ≡ nextAction act (firstChildren s w) (secondChildren s w) i j) (λ (n : ℕ). Unit {0})
-      w i j k (set w (2 * i + 1) (e + 1)) (set pairs e (getD pairs e 0 + 1)) imports (i + 1) (j + 1) k
+      w i j k (set w (2 * i + 1) (e + 1)) (set used e (usedAgain 4 (getD used e 0))) (i + 1) (j + 1) k
   walks-equal h l e q =
       let b : getD (secondChildren s w) j 0 ≡ e = cursor-second l ∙ sym q in
       pair-walks e h (omega (arith, cursor-small l)) _ _ (j + 1) (omega arith) (omega arith) (λ n u r. omega (arith, cursor-ranged n l r))
@@ -161,7 +164,7 @@ module _ (s : Sides) (w pairs imports : List ℕ) (i j k : ℕ) (room : WorkRoom
   -- A with a B sibling
   pub walks-unequal : i < s .rows → (e : ℕ) → e < elementLimit
       → Walks s (λ (act : Element → Element → Action) (end : ℕ). mergeUnequal e ≡ nextAction act (firstChildren s w) (secondChildren s w) i j) (λ (n : ℕ). e < n)
-      w i j k (set w (2 * i + 1) (e + 1)) (set pairs e (getD pairs e 0 + 1)) imports (i + 1) j k
+      w i j k (set w (2 * i + 1) (e + 1)) (set used e (usedAgain 4 (getD used e 0))) (i + 1) j k
   walks-unequal h e small =
       pair-walks e h small _ _ j (omega arith) (room .second) (λ n u r. u)
       (λ act end whole n p.
@@ -171,7 +174,7 @@ module _ (s : Sides) (w pairs imports : List ℕ) (i j k : ℕ) (room : WorkRoom
 
   pub walks-first : i < s .rows
       → Walks s (λ (act : Element → Element → Action) (end : ℕ). aOnly ≡ nextAction act (firstChildren s w) (secondChildren s w) i j) (λ (n : ℕ). Unit {0})
-      w i j k w pairs imports (i + 1) j k
+      w i j k w used (i + 1) j k
   walks-first h =
       let e = row-restriction w (s .rows) i k (room .unpaired i (omega arith) h) in
       record {
@@ -187,8 +190,8 @@ module _ (s : Sides) (w pairs imports : List ℕ) (i j k : ℕ) (room : WorkRoom
               small = room .small;
               unpaired = λ m l n. room .unpaired m (omega arith) n;
             };
-        counted = rw e (counted-restriction (planUpTo (s .rows) i k w) pairs imports counted (rowElement w i));
-        second = refl;
+        counted = rw e (counted-restriction (planUpTo (s .rows) i k w) used counted (rowElement w i));
+        behind = refl;
         ranged = λ n q r. r;
         plans = λ act end whole n p.
             moved act end whole (i + 1) j (e ∙ ap (plusRestriction (planUpTo (s .rows) i k w)) (sym (getD-first s w i h))) refl refl
@@ -202,10 +205,10 @@ module _ (s : Sides) (w pairs imports : List ℕ) (i j k : ℕ) (room : WorkRoom
     PassesHere act end = StepPasses act end (firstChildren s w) (secondChildren s w) i j position
 
     -- already paired
-    pub walks-skip : (getD pairs (getD w (s .start + j) 0) 0 ≡ 0 → ⊥) → Walks s PassesHere (λ (n : ℕ). position ≤ itemLimit) w i j k w pairs imports i (j + 1) k
+    pub walks-skip : 4 ≤ getD used (getD w (s .start + j) 0) 0 → Walks s PassesHere (λ (n : ℕ). position ≤ itemLimit) w i j k w used i (j + 1) k
     walks-skip n =
         let b = cursor-second l in
-        let u = counted .paired (getD w (s .start + j) 0) (cursor-small l) in
+        let u = counted-paired (planUpTo (s .rows) i k w) used counted (getD w (s .start + j) 0) (cursor-small l) n in
         record {
           room =
               record {
@@ -220,10 +223,10 @@ module _ (s : Sides) (w pairs imports : List ℕ) (i j k : ℕ) (room : WorkRoom
                 unpaired = room .unpaired;
               };
           counted = counted;
-          second = refl;
+          behind = refl;
           ranged = λ n q r. r;
           plans = λ act end whole q p.
-              planning-skip act end whole (planUpTo (s .rows) i k w) (firstChildren s w) (secondChildren s w) i j p position q (rw b (λ z. n (u ∙ z)));
+              planning-skip act end whole (planUpTo (s .rows) i k w) (firstChildren s w) (secondChildren s w) i j p position q (rw b u);
         }
 
     -- in the B-only list
@@ -253,8 +256,11 @@ module _ (s : Sides) (w pairs imports : List ℕ) (i j k : ℕ) (room : WorkRoom
       import-first : firstChildren s importing ≡ firstChildren s w
       import-first = elements-kept w importing (2 * (s .rows + k)) (2 * (s .rows + k) + 2) import-kept (s .rows) (λ m a b c. omega arith)
 
+      import-behind : drop (s .start) importing ≡ drop (s .start) w
+      import-behind = behind-kept s w importing (2 * (s .rows + k)) (2 * (s .rows + k) + 2) import-kept import-fits
+
       import-second : secondChildren s importing ≡ secondChildren s w
-      import-second = second-kept s w (room .within) importing (2 * (s .rows + k)) (2 * (s .rows + k) + 2) import-kept import-fits
+      import-second = second-behind s w importing import-behind
 
       import-room : WorkRoom s importing i (j + 1) (k + 1)
       import-room =
@@ -291,18 +297,18 @@ module _ (s : Sides) (w pairs imports : List ℕ) (i j k : ℕ) (room : WorkRoom
             second = rw import-second (r .second);
           }
 
-      pub walks-import : getD pairs e 0 ≡ 0
-          → Walks s PassesHere (λ (n : ℕ). position ≤ itemLimit) w i j k importing pairs (set imports e (getD imports e 0 + 1)) i (j + 1) (k + 1)
+      pub walks-import : getD used e 0 < 4
+          → Walks s PassesHere (λ (n : ℕ). position ≤ itemLimit) w i j k importing (set used e (usedAgain 2 (getD used e 0))) i (j + 1) (k + 1)
       walks-import z =
           let b : getD (secondChildren s w) j 0 ≡ e = cursor-second l ∙ sym q in
           let small : e < elementLimit = omega (arith, cursor-small l) in
-          let none : pairUses (planUpTo (s .rows) i k w) (getD (secondChildren s w) j 0) ≡ 0 = rw b (sym (counted .paired e small) ∙ z) in
+          let none = counted-unpaired (planUpTo (s .rows) i k w) used counted e small z in
           record {
             room = import-room;
-            counted = rw import-plan (counted-import (planUpTo (s .rows) i k w) pairs imports counted e position small);
-            second = import-second;
+            counted = rw import-plan (counted-import (planUpTo (s .rows) i k w) used counted e position small none);
+            behind = import-behind;
             ranged = λ n few r. import-ranged n (omega (arith, cursor-ranged n l r)) few r;
             plans = λ act end whole h p.
                 moved act end whole i (j + 1) (import-plan ∙ ap (λ (x : ℕ). plusImport (planUpTo (s .rows) i k w) x position) (sym b)) import-first import-second
-                (planning-import act end whole (planUpTo (s .rows) i k w) (firstChildren s w) (secondChildren s w) i j p position h none);
+                (planning-import act end whole (planUpTo (s .rows) i k w) (firstChildren s w) (secondChildren s w) i j p position h (rw b none));
           }

@@ -6,10 +6,12 @@ use lib.Dec.{ltb}
 use lib.ListN.{getD, drop}
 use Rattle.tables.specs.Lists.{firstOf}
 use Rattle.tables.specs.Records.{Element}
-use Rattle.merge_rules.specs.Pairing.{uses, firstUsedTwice}
+use Rattle.merge_rules.specs.Pairing as rules
+use Rattle.merge_rules.specs.Pairing.{firstUsedTwice}
 use Rattle.pairing.specs.Plans.{planIn}
 use Rattle.pairing.specs.Walks.{secondChildren}
-use Rattle.pairing.proofs.Laws.Steps.{few-paired, few-imported, child-small, twice-more, twice-stop, twice-end, uses-counted}
+use Rattle.pairing.proofs.Laws.Steps.{child-small, twice-more, twice-stop, twice-end}
+use Rattle.pairing.proofs.Laws.Uses.{counted-twice, counted-once}
 use borrow.Author.Needs.{needs}
 use Rattle.pairing.proofs.plan.used_twice.Statement.{statement}
 use Rattle.pairing.proofs.plan.used_twice.Tie as tie
@@ -17,13 +19,13 @@ use Rattle.pairing.proofs.plan.used_twice.Reads as reads
 use Rattle.pairing.proofs.plan.used_twice.Lts as lts
 
 abbrev Inv-loop : tie.InvT-loop
-Inv-loop work pairs imports s new n j₀ j =
+Inv-loop work uses s new n j₀ j =
     (j ≤ n)
-    × (firstOf (λ (b : Element). ltb 1 (uses (planIn (s .rows) new work) b)) (drop j (secondChildren s work))
+    × (firstOf (λ (b : Element). ltb 1 (rules.uses (planIn (s .rows) new work) b)) (drop j (secondChildren s work))
     ≡ firstUsedTwice (planIn (s .rows) new work) (secondChildren s work))
 
 abbrev μ-loop : tie.MeasureT-loop
-μ-loop work pairs imports s new n j₀ j = n - j
+μ-loop work uses s new n j₀ j = n - j
 
 loop-holds : tie.Need-loop-holds Inv-loop μ-loop
 unfolding firstUsedTwice
@@ -34,89 +36,38 @@ cast-e c =
     let a = c .before .before .before .before .before .args in
     omega (arith, c .shared-slice-known .given (a .s .start + c .before .before .before .loop .j))
 
-mul-if1 : tie.Need-mul-if1 Inv-loop μ-loop
-mul-if1 c =
-    let a = c .before .before .before .before .before .args in
-    let s = a .s in
-    let w = a .work .now in
-    let room = c .before .before .before .before .before .pre .0 in
-    let counted = c .before .before .before .before .before .pre .1 in
-    let l = c .before .before .before .loop in
-    let h : s .start + l .j < s .end = omega (arith, room .second, c .before .before .loop-test .taken) in
-    let small = child-small s w (s .rows) (s .end - s .start) (a .new) (l .j) room h in
-    record { fits = omega (arith, small) }
-
 shared-slice-read-if1 : tie.Need-shared-slice-read-if1 Inv-loop μ-loop
 shared-slice-read-if1 c =
     let a = c .before .before .before .before .before .before .args in
     let s = a .s in
     let w = a .work .now in
     let room = c .before .before .before .before .before .before .pre .0 in
-    let counted = c .before .before .before .before .before .before .pre .1 in
     let l = c .before .before .before .before .loop in
     let h : s .start + l .j < s .end = omega (arith, room .second, c .before .before .before .loop-test .taken) in
     let small = child-small s w (s .rows) (s .end - s .start) (a .new) (l .j) room h in
-    omega (arith, small, counted .pairSize)
-
-mul-if1-2 : tie.Need-mul-if1-2 Inv-loop μ-loop
-mul-if1-2 c =
-    let a = c .before .before .before .before .before .before .args in
-    let s = a .s in
-    let w = a .work .now in
-    let room = c .before .before .before .before .before .before .pre .0 in
-    let counted = c .before .before .before .before .before .before .pre .1 in
-    let l = c .before .before .before .before .loop in
-    let h : s .start + l .j < s .end = omega (arith, room .second, c .before .before .before .loop-test .taken) in
-    let small = child-small s w (s .rows) (s .end - s .start) (a .new) (l .j) room h in
-    record { fits = omega (arith, small) }
-
-shared-slice-read-if1-2 : tie.Need-shared-slice-read-if1-2 Inv-loop μ-loop
-shared-slice-read-if1-2 c =
-    let a = c .before .before .before .before .before .before .before .args in
-    let s = a .s in
-    let w = a .work .now in
-    let room = c .before .before .before .before .before .before .before .pre .0 in
-    let counted = c .before .before .before .before .before .before .before .pre .1 in
-    let l = c .before .before .before .before .before .loop in
-    let h : s .start + l .j < s .end = omega (arith, room .second, c .before .before .before .before .loop-test .taken) in
-    let small = child-small s w (s .rows) (s .end - s .start) (a .new) (l .j) room h in
-    omega (arith, small, counted .importSize)
-
-add-if1 : tie.Need-add-if1 Inv-loop μ-loop
-add-if1 c =
-    let a = c .before .before .before .before .before .before .before .args in
-    let s = a .s in
-    let w = a .work .now in
-    let room = c .before .before .before .before .before .before .before .pre .0 in
-    let counted = c .before .before .before .before .before .before .before .pre .1 in
-    let l = c .before .before .before .before .before .loop in
-    let h : s .start + l .j < s .end = omega (arith, room .second, c .before .before .before .before .loop-test .taken) in
-    let small = child-small s w (s .rows) (s .end - s .start) (a .new) (l .j) room h in
-    record { fits = omega (arith, few-paired s w (a .pairs .now) (a .imports .now) (s .rows) (s .end - s .start) (a .new) room counted (getD w (s .start + l .j) 0) small, few-imported s w (a .pairs .now) (a .imports .now) (s .rows) (s .end - s .start) (a .new) room counted (getD w (s .start + l .j) 0) small) }
+    omega (arith, small, c .before .before .before .before .before .before .pre .1 .size)
 
 returns : tie.Need-returns Inv-loop μ-loop
 returns c =
-    let a = c .before .before .before .before .before .before .before .before .args in
+    let a = c .before .before .before .before .before .before .before .args in
     let s = a .s in
     let w = a .work .now in
-    let room = c .before .before .before .before .before .before .before .before .pre .0 in
-    let counted = c .before .before .before .before .before .before .before .before .pre .1 in
-    let l = c .before .before .before .before .before .before .loop in
-    let h : s .start + l .j < s .end = omega (arith, room .second, c .before .before .before .before .before .loop-test .taken) in
+    let room = c .before .before .before .before .before .before .before .pre .0 in
+    let l = c .before .before .before .before .before .loop in
+    let h : s .start + l .j < s .end = omega (arith, room .second, c .before .before .before .before .loop-test .taken) in
     let small = child-small s w (s .rows) (s .end - s .start) (a .new) (l .j) room h in
-    (twice-stop s w (planIn (s .rows) (a .new) w) (l .j) (room .within) h (omega (arith, c .if1 .taken, uses-counted (planIn (s .rows) (a .new) w) (a .pairs .now) (a .imports .now) (getD w (s .start + l .j) 0) counted small)) _ (l .inv .1), λ n r. tt)
+    (twice-stop s w (planIn (s .rows) (a .new) w) (l .j) (room .within) h (counted-twice (planIn (s .rows) (a .new) w) (a .uses .now) (c .before .before .before .before .before .before .before .pre .1) (getD w (s .start + l .j) 0) small (c .if1 .taken)) _ (l .inv .1), λ n r. tt)
 
 loop-again : tie.Need-loop-again Inv-loop μ-loop
 loop-again c =
-    let a = c .before .before .before .before .before .before .before .before .args in
+    let a = c .before .before .before .before .before .before .before .args in
     let s = a .s in
     let w = a .work .now in
-    let room = c .before .before .before .before .before .before .before .before .pre .0 in
-    let counted = c .before .before .before .before .before .before .before .before .pre .1 in
-    let l = c .before .before .before .before .before .before .loop in
-    let h : s .start + l .j < s .end = omega (arith, room .second, c .before .before .before .before .before .loop-test .taken) in
+    let room = c .before .before .before .before .before .before .before .pre .0 in
+    let l = c .before .before .before .before .before .loop in
+    let h : s .start + l .j < s .end = omega (arith, room .second, c .before .before .before .before .loop-test .taken) in
     let small = child-small s w (s .rows) (s .end - s .start) (a .new) (l .j) room h in
-    (omega (arith, c .before .before .before .before .before .loop-test .taken), twice-more s w (planIn (s .rows) (a .new) w) (l .j) (room .within) h (omega (arith, c .if1 .left, uses-counted (planIn (s .rows) (a .new) w) (a .pairs .now) (a .imports .now) (getD w (s .start + l .j) 0) counted small)) _ (l .inv .1))
+    (omega (arith, c .before .before .before .before .loop-test .taken), twice-more s w (planIn (s .rows) (a .new) w) (l .j) (room .within) h (counted-once (planIn (s .rows) (a .new) w) (a .uses .now) (c .before .before .before .before .before .before .before .pre .1) (getD w (s .start + l .j) 0) small (c .if1 .left)) _ (l .inv .1))
 
 returns-2 : tie.Need-returns-2 Inv-loop μ-loop
 returns-2 c =
@@ -137,11 +88,7 @@ used-twice-spec =
     (λ c. search needs)
     (λ c. search needs)
     cast-e
-    mul-if1
     shared-slice-read-if1
-    mul-if1-2
-    shared-slice-read-if1-2
-    add-if1
     returns
     (λ c. search needs)
     (λ c. search needs)

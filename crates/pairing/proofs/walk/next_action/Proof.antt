@@ -1,128 +1,60 @@
--- `merge::walk::next_action` meets its contract. Assumes nothing.
-use mathlib.Core.Path.{_≡_, sym}
+-- `walk::next_action` meets its contract. Assumes nothing.
+use mathlib.Core.Path.{refl, sym}
 use Prim.Native.Nat.{_+_, _*_}
 use native.Mathlib.Omega.{arith}
+use Rattle.pairing.specs.Walks.{secondChildren}
+use Rattle.pairing.proofs.Laws.Actions.{decided, sought}
 use Rattle.pairing.proofs.Laws.Steps.{child-ranged, next-at, next-past}
 use borrow.Author.Needs.{needs}
 use Rattle.pairing.proofs.walk.next_action.Statement.{statement}
 use Rattle.pairing.proofs.walk.next_action.Tie as tie
-use Rattle.pairing.proofs.walk.next_action.Reads as reads
-use Rattle.pairing.proofs.walk.next_action.Lts as lts
-use Rattle.pairing.proofs.action.action_of.Reads as action-of-reads
 
 returns : tie.Need-returns
 returns c =
-    let a = c .before .before .before .before .before .before .before .args in
-    let s = a .s in
-    let w = a .work .now in
-    let q = c .before .before .before .before .before .before .before .pre in
-    let room = q .1 .1 .1 .0 in
-    let ranged = q .1 .1 .1 .1 .0 in
-    record { is = sym (next-past s w (a .c .a) (a .c .b) (a .c .new) room _ (c .if1 .taken)); within = tt }
-
-mul-row : tie.Need-mul-row
-mul-row c =
-    let a = c .before .before .before .before .before .before .before .before .args in
-    let s = a .s in
-    let w = a .work .now in
-    let q = c .before .before .before .before .before .before .before .before .pre in
-    let room = q .1 .1 .1 .0 in
-    let ranged = q .1 .1 .1 .1 .0 in
-    record { fits = omega (arith, q .1 .1 .1 .1 .1, ranged .rows .few) }
-
-shared-slice-read-action-of : tie.Need-shared-slice-read-action-of
-shared-slice-read-action-of c =
     let a = c .before .before .before .before .before .before .before .before .before .args in
-    let s = a .s in
-    let w = a .work .now in
     let q = c .before .before .before .before .before .before .before .before .before .pre in
     let room = q .1 .1 .1 .0 in
-    let ranged = q .1 .1 .1 .1 .0 in
-    omega (arith, q .1 .1 .1 .1 .1, ranged .rows .room)
+    (record { is = sym (next-past (a .s) (a .work .now) (a .c .a) (a .c .b) (a .c .new) room _ (c .if1 .taken)); within = tt }, (q .1 .1 .1 .1 .1 .0, refl))
 
-cast-action-of : tie.Need-cast-action-of
-cast-action-of c =
-    let a = c .before .before .before .before .before .before .before .before .before .args in
-    omega (arith, c .shared-slice-known6 .given (2 * a .c .a))
+cast-t23 : tie.Need-cast-t23
+cast-t23 c =
+    omega (arith, c .before .before .before .before .before .before .slice-known .given (2 * c .before .before .before .before .before .before .before .before .before .before .before .args .c .a))
 
-shared-slice-read-action-of-2 : tie.Need-shared-slice-read-action-of-2
-shared-slice-read-action-of-2 c =
-    let a = c .before .before .before .before .before .before .before .before .before .before .args in
-    let s = a .s in
-    let w = a .work .now in
-    let q = c .before .before .before .before .before .before .before .before .before .before .pre in
-    let room = q .1 .1 .1 .0 in
-    let ranged = q .1 .1 .1 .1 .0 in
-    omega (arith, room .within, c .before .before .before .if1 .left)
-
-cast-action-of-2 : tie.Need-cast-action-of-2
-cast-action-of-2 c =
-    let a = c .before .before .before .before .before .before .before .before .before .before .args in
-    omega (arith, c .shared-slice-known7 .given (a .s .start + a .c .b))
-
-sub-action-of : tie.Need-sub-action-of
-sub-action-of c =
-    let a = c .before .before .before .before .before .before .before .before .before .before .args in
-    let s = a .s in
-    let w = a .work .now in
-    let q = c .before .before .before .before .before .before .before .before .before .before .pre in
-    let room = q .1 .1 .1 .0 in
-    let ranged = q .1 .1 .1 .1 .0 in
-    omega (arith, room .second)
-
-part-action-of-start : tie.Need-part-action-of-start
-part-action-of-start c =
-    let a = c .before .before .before .before .before .before .before .before .before .before .args in
-    let s = a .s in
-    let w = a .work .now in
-    let q = c .before .before .before .before .before .before .before .before .before .before .pre in
-    let room = q .1 .1 .1 .0 in
-    let ranged = q .1 .1 .1 .1 .0 in
-    omega (arith, room .second)
-
-part-action-of-end : tie.Need-part-action-of-end
-part-action-of-end c =
-    let a = c .before .before .before .before .before .before .before .before .before .before .args in
-    let s = a .s in
-    let w = a .work .now in
-    let q = c .before .before .before .before .before .before .before .before .before .before .pre in
-    let room = q .1 .1 .1 .0 in
-    let ranged = q .1 .1 .1 .1 .0 in
-    omega (arith, room .within)
-
-action-of-requires : tie.Need-action-of-requires
-action-of-requires c κs =
-    let a = c .before .before .before .before .before .before .before .before .before .before .before .args in
-    let s = a .s in
-    let w = a .work .now in
-    let q = c .before .before .before .before .before .before .before .before .before .before .before .pre in
-    let room = q .1 .1 .1 .0 in
-    let ranged = q .1 .1 .1 .1 .0 in (
-      q .0,
-      (
-        q .1 .0,
-        (
-          q .1 .1 .0,
-          (
-            ranged .second,
-            (
-              ranged .rows .element (a .c .a) (omega (arith, q .1 .1 .1 .1 .1)),
-              child-ranged _ s w (a .c .a) (a .c .b) (a .c .new) (a .c .b) room ranged (c .before .before .before .before .if1 .left),
-            ),
-          ),
-        ),
-      ),
-    )
-
-returns-2 : tie.Need-returns-2
-returns-2 c =
+cast-t23-2 : tie.Need-cast-t23-2
+cast-t23-2 c =
     let a = c .before .before .before .before .before .before .before .before .before .before .before .before .args in
-    let s = a .s in
-    let w = a .work .now in
+    omega (arith, c .before .slice-known2 .given (a .s .start + a .c .b))
+
+cursor-action-requires : tie.Need-cursor-action-requires
+cursor-action-requires c κs =
+    let a = c .before .before .before .before .before .before .before .before .before .before .before .before .args in
     let q = c .before .before .before .before .before .before .before .before .before .before .before .before .pre in
     let room = q .1 .1 .1 .0 in
     let ranged = q .1 .1 .1 .1 .0 in
-    rw (next-at s w (a .c .a) (a .c .b) (a .c .new) room _ (q .1 .1 .1 .1 .1) (c .before .before .before .before .before .if1 .left)) (c .action-of .ensures)
+    (q .0, (q .1 .0, (q .1 .1 .0, (ranged .rows .element (a .c .a) (omega (arith, q .1 .1 .1 .1 .1 .1)), child-ranged _ (a .s) (a .work .now) (a .c .a) (a .c .b) (a .c .new) (a .c .b) room ranged (c .before .before .before .if1 .left)))))
+
+search-children-requires : tie.Need-search-children-requires
+search-children-requires c κs =
+    let a = c .before .before .before .before .before .before .before .before .before .before .before .before .before .before .before .before .args in
+    let q = c .before .before .before .before .before .before .before .before .before .before .before .before .before .before .before .before .pre in
+    let room = q .1 .1 .1 .0 in
+    let ranged = q .1 .1 .1 .1 .0 in
+    (q .0, (q .1 .0, (ranged .second, (record { order = omega (arith, room .second); within = room .within }, (q .1 .1 .1 .1 .1 .0, ranged .rows .element (a .c .a) (omega (arith, q .1 .1 .1 .1 .1 .1)))))))
+
+returns-2 : tie.Need-returns-2
+returns-2 c =
+    let a = c .before .before .before .before .before .before .before .before .before .before .before .before .before .before .before .before .args in
+    let q = c .before .before .before .before .before .before .before .before .before .before .before .before .before .before .before .before .pre in
+    let room = q .1 .1 .1 .0 in
+    (rw (next-at (a .s) (a .work .now) (a .c .a) (a .c .b) (a .c .new) room _ (q .1 .1 .1 .1 .1 .1) (c .before .before .before .before .before .before .before .if1 .left)) (decided (c .before .before .before .cursor-action .ensures) (c .before .decision .given .1) (a .splittable) (secondChildren (a .s) (a .work .now))), (q .1 .1 .1 .1 .1 .0, refl))
+
+returns-3 : tie.Need-returns-3
+returns-3 c =
+    let a = c .before .before .before .before .before .before .before .before .before .before .before .before .before .before .before .before .before .before .before .args in
+    let q = c .before .before .before .before .before .before .before .before .before .before .before .before .before .before .before .before .before .before .before .pre in
+    let room = q .1 .1 .1 .0 in
+    let r = c .before .before .search-children .ensures in
+    (rw (next-at (a .s) (a .work .now) (a .c .a) (a .c .b) (a .c .new) room _ (q .1 .1 .1 .1 .1 .1) (c .before .before .before .before .before .before .before .before .before .before .if1 .left)) (r .0 _ _ (sought (c .before .before .before .before .before .before .cursor-action .ensures) (c .before .before .before .before .enum-told .given .1))), ((λ e. r .1 .0), r .1 .1))
 
 pub next-action-spec : {M : Type 1} → statement M
 next-action-spec =
@@ -130,16 +62,17 @@ next-action-spec =
     (tie.spec
     (λ c. search needs)
     returns
-    mul-row
     (λ c. search needs)
-    shared-slice-read-action-of
-    cast-action-of
     (λ c. search needs)
-    shared-slice-read-action-of-2
-    cast-action-of-2
     (λ c. search needs)
-    sub-action-of
-    part-action-of-start
-    part-action-of-end
-    action-of-requires
-    returns-2)
+    cast-t23
+    (λ c. search needs)
+    (λ c. search needs)
+    cast-t23-2
+    cursor-action-requires
+    (λ c. search needs)
+    (λ c. search needs)
+    search-children-requires
+    returns-2
+    (λ c. search needs)
+    returns-3)

@@ -1,4 +1,4 @@
--- `merge::walk::plan_level` meets its contract. Assumes nothing.
+-- `walk::plan_level` meets its contract. Assumes nothing.
 use mathlib.Core.Path.{_≡_, _∙_}
 use native.Mathlib.Omega.{arith}
 use Rattle.tables.specs.ModelTable.{modelOf}
@@ -7,13 +7,6 @@ use Rattle.pairing.proofs.Laws.Laying.{list-few, laid-first, laid-level
 use borrow.Author.Needs.{needs}
 use Rattle.pairing.proofs.walk.plan_level.Statement.{statement}
 use Rattle.pairing.proofs.walk.plan_level.Tie as tie
-use Rattle.pairing.proofs.walk.plan_level.Reads as reads
-use Rattle.pairing.proofs.walk.plan_level.Lts as lts
-use Rattle.pairing.proofs.children.copy_sides.Reads as copy-sides-reads
-use Rattle.pairing.proofs.walk.walk.Reads as walk-reads
-use Rattle.schema_calls.proofs.calls.splittable_in.Reads as splittable-in-reads
-use Rattle.tables.proofs.elements.element_type.Reads as element-type-reads
-use Rattle.tables.proofs.model.list_length.Reads as list-length-reads
 use Rattle.table_test.proofs.Laws.Tested.{type-in}
 use lib.ListN.{length}
 use Rattle.tables.specs.SchemaTable.{schemaOf}
@@ -59,11 +52,12 @@ walk-requires c κs =
     let t = c .before .before .before .element-type in
     (q .0, (m, (rw (t .ensures) (type-in (a .elements .now) (length (schemaOf (a .schema .now) .types)) (a .a .0) (q .0 .elementsGood) (q .0 .typesIn) (q .1 .1 .0)), (s .ensures .room, (rw (m .same) at (s .ensures .ranged), omega (arith, c .before .list-length .ensures, list-few (a .model .now) (m .good) (a .a .0) (omega (arith, m .same, q .1 .1 .0))))))))
 
+same-length-2 : tie.Need-same-length-2
+same-length-2 c = c .before .before .walk .kept .1 .1 .1 .1 .1 .1 .0 ∙ c .before .before .before .before .before .before .before .before .before .before .before .copy-sides .kept .1 .1 .1 .0
+
 returns-2 : tie.Need-returns-2
 returns-2 c =
     let a = c .before .before .before .before .before .before .before .before .before .before .before .before .before .before .before .before .before .before .args in
-    let q = c .before .before .before .before .before .before .before .before .before .before .before .before .before .before .before .before .before .before .pre in
-    let m = q .1 .0 in
     let s = c .before .before .before .before .before .before .before .before .before .before .before .copy-sides in
     let t = c .before .before .before .before .before .before .element-type in
     let w = c .before .before .walk .ensures in
@@ -80,5 +74,5 @@ plan-level-spec =
     splittable-in-requires
     list-length-requires
     walk-requires
-    (λ c. search needs)
+    same-length-2
     returns-2)

@@ -1,7 +1,7 @@
--- `sibling::span_of` meets its contract. Assumes nothing.
+-- `keys::span_of` meets its contract. Assumes nothing.
 use borrow.Author.Needs.{needs}
-use Rattle.pairing.proofs.sibling.span_of.Statement.{statement}
-use Rattle.pairing.proofs.sibling.span_of.Tie as tie
+use Rattle.pairing.proofs.keys.span_of.Statement.{statement}
+use Rattle.pairing.proofs.keys.span_of.Tie as tie
 
 returns : tie.Need-returns
 returns c = rw (c .before .key .given .1)
