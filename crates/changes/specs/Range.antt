@@ -14,7 +14,6 @@ use Rattle.merge_rules.specs.Range.{Range, places, noRow, conflicting, Move, st
 use Rattle.changes.specs.declared.range.Against.{Against}
 use Rattle.changes.specs.declared.range.Against.the-variants.{NoRow as NoRowOf, Row}
 use Rattle.changes.specs.declared.range.Bounds.{Bounds}
-use Rattle.changes.specs.declared.range.Compared.{Compared}
 use Rattle.changes.specs.declared.range.Move as step
 use Rattle.changes.specs.declared.range.Move.the-variants.{Stop, To, Clash}
 use Rattle.changes.specs.declared.range.Range as program
@@ -47,16 +46,16 @@ abbrev pub moveOf : Item → Against → ℕ → ℕ → Bounds → Move
 moveOf (child e) x mult index b = moveFor x mult index b
 moveOf (text t) x mult index b = move (b .first) (index + 1)
 
--- c is how the elements of its name stand to row new in a list of type t
-pub record Compares (schema : List ℕ) (t new : ℕ) (c : Compared) : Type 0 where
-  pub is : (x : Fixed) (p e mult index : ℕ) (b : Bounds) → x .schema ≡ schemaOf schema → t ≡ typeOf x p → c .name .0 ≡ nameOf x e
+-- x is how the elements of name n stand to row new in a list of type t
+pub record Compares (schema : List ℕ) (t new n : ℕ) (x : Against) : Type 0 where
+  pub is : (f : Fixed) (p e mult index : ℕ) (b : Bounds) → f .schema ≡ schemaOf schema → t ≡ typeOf f p → n ≡ nameOf f e
       → mult ≡ multNumber (getD (schemaOf schema .subElements) new noSubElement .mult)
-      → moveFor (c .against) mult index b ≡ moveAt x p (getD (schemaOf schema .subElements) new noSubElement) (child e) index (b .first) (b .last)
+      → moveFor x mult index b ≡ moveAt f p (getD (schemaOf schema .subElements) new noSubElement) (child e) index (b .first) (b .last)
 
--- c has the name of the item, if that is an element
-abbrev pub NamesItem : List ℕ → Item → Compared → Type 0
-NamesItem elements (child e) c = c .name .0 ≡ getD (elementsOf elements .names) e 0
-NamesItem elements (text t) c = Unit {0}
+-- the name of an item; of a text, the last one
+abbrev pub nameOr : List ℕ → ℕ → Item → ℕ
+nameOr elements last (child e) = getD (elementsOf elements .names) e 0
+nameOr elements last (text t) = last
 
 -- r is the item's move of the bounds, which were before and are after
 pub record Moves (a : Item) (x : Against) (mult index : ℕ) (before after : Bounds) (r : step.Move) : Type 0 where

@@ -29,7 +29,7 @@ ghost use Rattle.tables.specs.SchemaTable.{schemaOf, GoodSchema, modeFrom, mult
 ghost use Rattle.state_test.specs.StateTest.{fixedIn};
 ghost use Rattle.merge_rules.specs.Range.{equalPath, moveBy, readContent};
 ghost use Rattle.table_test.specs.Fits.{ModelOver};
-ghost use Rattle.changes.specs.Range.{orderingIs, moveIs, moveOf, boundsAfter, Compares, NamesItem, Moves, rangeIs, Ranges};
+ghost use Rattle.changes.specs.Range.{orderingIs, moveIs, moveOf, boundsAfter, Compares, nameOr, Moves, rangeIs, Ranges};
 
 // The first and last place; no row of the name in the version; a conflict.
 pub enum Range {
@@ -95,61 +95,32 @@ pub enum Against {
     Row(u64, Order),
 }
 
-pub struct Compared {
-    pub name: Name,
-    pub against: Against,
-}
-
-fn compare_name(schema: &[u64], t: TypeNumber, new: usize, n: Name) -> Compared
+fn compare_name(schema: &[u64], t: TypeNumber, new: usize, n: Name) -> Against
     requires { ⌜ GoodSchema (now schema) ⌝ }
     requires { ⌜ t .0 < length (schemaOf (now schema) .types) ⌝ }
     requires { ⌜ new < length (schemaOf (now schema) .subElements) ⌝ }
-    ensures { λ r. ⌜ Compares (now (schema .entry)) (t .0) new r ⌝ }
-    ensures { λ r. ⌜ r .name ≡ n ⌝ }
+    ensures { λ r. ⌜ Compares (now (schema .entry)) (t .0) new (n .0) r ⌝ }
 {
     let Found::At(old) = row_of_name(schema, t, n) else {
-        return Compared {
-            name: n,
-            against: Against::NoRow,
-        };
+        return Against::NoRow;
     };
     let path = row_path(schema, new);
     let other = row_path(schema, old);
     let mode = find_common_group(schema, t, path, other);
     let order = path.order(other);
-    Compared {
-        name: n,
-        against: Against::Row(mode, order),
-    }
+    Against::Row(mode, order)
 }
 
-// The last comparison holds for the next element of its name.
-fn compare_item(
-    schema: &[u64],
-    elements: &[u64],
-    t: TypeNumber,
-    new: usize,
-    a: Item,
-    last: Compared,
-) -> Compared
-    requires { ⌜ GoodSchema (now schema) ⌝ }
+// The name of an item; of a text, the last one.
+fn name_or(elements: &[u64], a: Item, last: Name) -> Name
     requires { ⌜ GoodElements (now elements) ⌝ }
-    requires { ⌜ t .0 < length (schemaOf (now schema) .types) ⌝ }
-    requires { ⌜ new < length (schemaOf (now schema) .subElements) ⌝ }
     requires { ⌜ ItemBelow (length (elementsOf (now elements) .names)) (itemIs a) ⌝ }
-    requires { ⌜ Compares (now schema) (t .0) new last ⌝ }
-    ensures { λ r. ⌜ Compares (now (schema .entry)) (t .0) new r ⌝ }
-    ensures { λ r. ⌜ NamesItem (now (elements .entry)) (itemIs a) r ⌝ }
+    ensures { λ r. ⌜ r .0 ≡ nameOr (now (elements .entry)) (last .0) (itemIs a) ⌝ }
 {
-    let Item::Child(e) = a else {
-        return last;
-    };
-    let n = element_name(elements, e);
-    let name = last.name;
-    if n.0 == name.0 {
-        return last;
+    match a {
+        Item::Child(e) => element_name(elements, e),
+        Item::Text(_) => last,
     }
-    compare_name(schema, t, new, n)
 }
 
 // The move of an item; a text moves the last place.
@@ -223,13 +194,17 @@ fn read_content(schema: &[u64], elements: &[u64], model: &[u64], p: Element, new
     let t = element_type(elements, p);
     let mult = row_mult(schema, new);
     let n = list_length(model, p);
-    let mut compared = compare_name(schema, t, new, row_name(schema, new));
+    let mut name = row_name(schema, new);
+    let mut against = compare_name(schema, t, new, name);
     let mut bounds = Bounds { first: 0, last: 0 };
     let mut i: usize = 0;
     while i < n {
         let a = item_at(model, p, i);
-        compared = compare_item(schema, elements, t, new, a, compared);
-        let against = compared.against;
+        let next = name_or(elements, a, name);
+        if next.0 != name.0 {
+            name = next;
+            against = compare_name(schema, t, new, name);
+        }
         let s = lend_bounds(a, against, mult, i, bounds);
         bounds = s.bounds;
         let m = s.answer;

@@ -14,7 +14,6 @@ use Rattle.tables.specs.Records.{SchemaPath, Mode, Mult, Item, child, text, Fix
 use Rattle.tables.specs.ElementsTable.{elementsOf, GoodElements}
 use Rattle.tables.specs.ModelTable.{modelOf, countOf, ItemBelow, GoodModel}
 use Rattle.tables.specs.SchemaTable.{schemaOf, modeNumber, modeFrom, multNumber, multFrom, noSubElement}
-use Rattle.tables.specs.declared.numbers.Name.{Name}
 use Rattle.tables.specs.declared.path.Order.{Order}
 use Rattle.tables.specs.declared.path.Order.the-variants.{Less, Equal, Greater}
 use Rattle.tables.proofs.Laws.Cells.{each-getD}
@@ -33,8 +32,7 @@ use Rattle.changes.specs.declared.range.Range.the-variants.{Places, NoRo
 use Rattle.changes.specs.declared.range.Against.{Against}
 use Rattle.changes.specs.declared.range.Against.the-variants.{NoRow as NoRowOf, Row}
 use Rattle.changes.specs.declared.range.Bounds.{Bounds}
-use Rattle.changes.specs.declared.range.Compared.{Compared}
-use Rattle.changes.specs.Range.{orderingIs, moveIs, moveOf, boundsAfter, Compares, NamesItem, Moves, rangeIs, PlacesIn, Ranges}
+use Rattle.changes.specs.Range.{orderingIs, moveIs, moveOf, boundsAfter, Compares, nameOr, Moves, rangeIs, PlacesIn, Ranges}
 use Rattle.table_test.specs.Fits.{ModelOver}
 
 -- ---- a move, by numbers
@@ -117,34 +115,27 @@ module _ (mult index : ℕ) (b : Bounds) (x : Against) {a : Item} where
   pub text-last : {t : ℕ} → a ≡ text t → move (b .first) (index + 1) ≡ moveOf a x mult index b
   text-last h = rw h
 
-module _ (schema : List ℕ) (t new : ℕ) (n : Name) where
-  pub compares-none : rowOfName (schemaOf schema) t (n .0) ≡ none → Compares schema t new (record { name = n; against = NoRowOf })
+module _ (schema : List ℕ) (t new n : ℕ) where
+  pub compares-none : rowOfName (schemaOf schema) t n ≡ none → Compares schema t new n NoRowOf
   unfolding moveAt
   compares-none h =
       record {
-        is = λ x p e mult index b hs ht hn hm.
-            let k : rowOfName (x .schema) (typeOf x p) (nameOf x e) ≡ none = rw (hs, ← ht, ← hn) h in
+        is = λ f p e mult index b hs ht hn hm.
+            let k : rowOfName (f .schema) (typeOf f p) (nameOf f e) ≡ none = rw (hs, ← ht, ← hn) h in
             rw (moveAt, k);
       }
 
-  pub compares-row : {old : SubElement} → rowOfName (schemaOf schema) t (n .0) ≡ some old
+  pub compares-row : {old : SubElement} → rowOfName (schemaOf schema) t n ≡ some old
       → {path other : SchemaPath} → path ≡ getD (schemaOf schema .subElements) new noSubElement .path → other ≡ old .path
       → {mode : ℕ} {order : Order} → mode ≡ modeNumber (findCommonGroup (schemaOf schema) t path other) → order ≡ orderOf (pathOrder path other)
-      → Compares schema t new (record { name = n; against = Row mode order })
+      → Compares schema t new n (Row mode order)
   unfolding moveAt
   compares-row {old} h hp ho hm hr =
       record {
-        is = λ x p e mult index b hs ht hn hk.
-            let k : rowOfName (x .schema) (typeOf x p) (nameOf x e) ≡ some old = rw (hs, ← ht, ← hn) h in
+        is = λ f p e mult index b hs ht hn hk.
+            let k : rowOfName (f .schema) (typeOf f p) (nameOf f e) ≡ some old = rw (hs, ← ht, ← hn) h in
             move-back _ _ _ (b .first) index hm hr hk ∙ rw (moveAt, k, hp, ho, ht, hs);
       }
-
-module _ (elements : List ℕ) (c : Compared) {a : Item} where
-  pub names-text : {t : ℕ} → a ≡ text t → NamesItem elements a c
-  names-text h = rw h tt
-
-  pub names-child : {e : ℕ} → a ≡ child e → c .name .0 ≡ getD (elementsOf elements .names) e 0 → NamesItem elements a c
-  names-child h k = rw h k
 
 -- ---- the items from place i on, by the move of item i
 
@@ -155,16 +146,16 @@ pub record ItemRead (x : Fixed) (p : ℕ) (new : SubElement) (l : List Item) (i 
   pub moved : b′ ≡ boundsAfter m b
 
 module _ (deck schema elements : List ℕ) (p : ℕ) {t : ℕ} (ht : t ≡ typeOf (fixedIn deck schema elements) p) (new : ℕ) {mult : ℕ}
-    (hm : mult ≡ multNumber (getD (schemaOf schema .subElements) new noSubElement .mult)) (c : Compared) (compares : Compares schema t new c) where
-  item-moves : (a : Item) → NamesItem elements a c → (index : ℕ) (b : Bounds)
-      → moveOf a (c .against) mult index b ≡ moveAt (fixedIn deck schema elements) p (getD (schemaOf schema .subElements) new noSubElement) a index (b .first) (b .last)
+    (hm : mult ≡ multNumber (getD (schemaOf schema .subElements) new noSubElement .mult)) {n : ℕ} {s : Against} (compares : Compares schema t new n s) (last : ℕ) where
+  item-moves : (a : Item) → n ≡ nameOr elements last a → (index : ℕ) (b : Bounds)
+      → moveOf a s mult index b ≡ moveAt (fixedIn deck schema elements) p (getD (schemaOf schema .subElements) new noSubElement) a index (b .first) (b .last)
   unfolding moveAt
-  item-moves (child e) n index b = compares .is (fixedIn deck schema elements) p e _ index b refl ht n hm
-  item-moves (text t) n index b = rw (moveAt, add-one index)
+  item-moves (child e) h index b = compares .is (fixedIn deck schema elements) p e _ index b refl ht h hm
+  item-moves (text t) h index b = rw (moveAt, add-one index)
 
-  pub item-read : (l : List Item) (i : ℕ) → i < length l → (a : Item) → a ≡ getD l i (child 0) → NamesItem elements a c → {b b′ : Bounds} {m : step.Move}
-      → Moves a (c .against) mult i b b′ m → ItemRead (fixedIn deck schema elements) p (getD (schemaOf schema .subElements) new noSubElement) l i b b′ m
-  item-read l i h a at n moves = record { within = h; is = rw (← at) (sym (moves .is ∙ item-moves a n i _)); moved = moves .moved }
+  pub item-read : (l : List Item) (i : ℕ) → i < length l → (a : Item) → a ≡ getD l i (child 0) → n ≡ nameOr elements last a → {b b′ : Bounds} {m : step.Move}
+      → Moves a s mult i b b′ m → ItemRead (fixedIn deck schema elements) p (getD (schemaOf schema .subElements) new noSubElement) l i b b′ m
+  item-read l i h a at k moves = record { within = h; is = rw (← at) (sym (moves .is ∙ item-moves a k i _)); moved = moves .moved }
 
 module _ {x : Fixed} {p : ℕ} {new : SubElement} {l : List Item} {i : ℕ} {b b′ : Bounds} {m : step.Move} (r : ItemRead x p new l i b b′ m) where
   pub read-stop : m ≡ Stop → readContent x p new (drop i l) i (b .first) (b .last) ≡ places (b′ .first) (b′ .last)
