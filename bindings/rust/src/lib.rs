@@ -50,8 +50,8 @@
 //! # Ok::<(), Box<dyn std::error::Error>>(())
 //! ```
 //!
-//! Every call runs on the caller's stack. As measured on trees of the largest depth, a merge takes up to 920,000 bytes of
-//! it, [`output`] and [`calls_output`] up to 1,110,000. The 2 MiB of a thread that Rust starts are enough.
+//! Every call runs on the caller's stack. As measured on trees of the largest depth, a merge takes up to 1,100,000 bytes of
+//! it, [`output`] and [`calls_output`] up to 1,290,000. The 2 MiB of a thread that Rust starts are enough.
 
 #![deny(missing_docs, unsafe_code)]
 #![cfg_attr(
