@@ -25,7 +25,7 @@
  * and only read them. A slice that one call writes must not be used by another call at the same time.
  *
  * Stack. Every call runs on the caller's stack. As measured on trees of the largest depth, a merge takes up to 1,100,000 bytes
- * of it, zapelaritz_print_output and zapelaritz_print_calls up to 1,290,000, and every other call up to 12,000. No theorem
+ * of it, zapelaritz_print_output and zapelaritz_print_calls up to 1,290,000, and every other call up to 14,000. No theorem
  * bounds the stack, and nothing tests it: a call that runs out of it crashes at the guard page. A thread that merges should
  * have 2 MiB.
  */
@@ -94,7 +94,7 @@ enum zapelaritz_refusal {
 /* The bytes of the longest deck that loads. A longer one may be lent; load refuses it (4, line 0). */
 size_t zapelaritz_deck_limit(void);
 
-/* How many numbers each table has, no more and no fewer. All four together are under 200,000 bytes. */
+/* How many numbers each table has, no more and no fewer. All four together are under 220,000 bytes. */
 size_t zapelaritz_schema_size(void);
 size_t zapelaritz_elements_size(void);
 size_t zapelaritz_model_size(void);

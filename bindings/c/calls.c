@@ -15,12 +15,12 @@
 
 enum { SCHEMA, ELEMENTS, MODEL, LOG, TABLES };
 
-static const size_t right_length[TABLES] = { 5892, 7299, 5122, 5121 };
+static const size_t right_length[TABLES] = { 8964, 7299, 5122, 5121 };
 
 enum {
     DECK_LIMIT = 32768,
     TEXT_ROOM = DECK_LIMIT + 8,
-    TABLE_ROOM = 7299 + 8,
+    TABLE_ROOM = 8964 + 8,
     ANSWER_ROOM = ZAPELARITZ_ANSWER_SIZE + 8,
     OUT_ROOM = 4096
 };

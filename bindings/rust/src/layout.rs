@@ -51,7 +51,7 @@ impl Area {
     }
 }
 
-/// The schema's table: types, groups, sub-elements, files.
+/// The schema's table: types, groups, sub-elements, files, and three indexes.
 pub(crate) mod schema {
     use super::*;
 
@@ -61,7 +61,9 @@ pub(crate) mod schema {
     const GROUPS: Area = Area::new(TYPES.end(), 6, GROUP_LIMIT);
     const ROWS: Area = Area::new(GROUPS.end(), 9, ROW_LIMIT);
     pub(crate) const FILES: Area = Area::new(ROWS.end(), 2, FILE_LIMIT);
-    pub(crate) const SIZE: usize = FILES.end();
+    /// 512 heads and 512 links each.
+    const INDEXES: Area = Area::new(FILES.end(), 512 + 512, 3);
+    pub(crate) const SIZE: usize = INDEXES.end();
 
     // Cells of a file.
     pub(crate) const FILE: usize = 0;
@@ -149,7 +151,7 @@ mod tests {
 
     #[test]
     fn sizes_by_hand() {
-        assert_eq!(schema::SIZE, 4 + 128 * 3 + 128 * 6 + 512 * 9 + 64 * 2);
+        assert_eq!(schema::SIZE, 4 + 128 * 3 + 128 * 6 + 512 * 9 + 64 * 2 + 3 * 1024);
         assert_eq!(elements::SIZE, 3 + 1024 * 3 + 2048 * 2 + 64 * 2);
         assert_eq!(model::SIZE, 1 + 1024 + 1025 + 2048 + 1024);
         assert_eq!(log::SIZE, 1 + 1024 * 5);

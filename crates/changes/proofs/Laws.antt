@@ -1,5 +1,7 @@
 pub mod Log
+pub mod Once
 pub mod Places
+pub mod Runs
 pub mod Undo
 pub mod Imports
 pub mod Range

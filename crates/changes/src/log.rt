@@ -12,12 +12,13 @@ use tables::log::push_entry;
 use tables::model::Item;
 use tables::model::item_at;
 use tables::model::list_length;
-use tables::model::remove_item;
+use tables::model::remove_items;
 use tables::model::set_of;
 use tables::model::set_parent;
 use tables::model::set_set;
 use tables::numbers::Element;
 use tables::numbers::FileNumber;
+ghost use mathlib.Core.Bool.{true};
 ghost use mathlib.Core.Path.{_≡_};
 ghost use Prim.Native.Nat.{_<_, _≤_};
 ghost use lib.Dec.{eqb};
@@ -29,10 +30,12 @@ ghost use Rattle.tables.specs.ModelTable.{itemIs, countOf, modelOf, GoodModel, 
 ghost use Rattle.tables.specs.Records.{listOf};
 ghost use Rattle.tables.specs.SetCells.{setIs};
 ghost use Rattle.table_test.specs.LogTest.{EntryIn};
+ghost use Rattle.table_test.specs.ModelTest.{onceIn};
 ghost use Rattle.state_test.specs.StateTest.{stateIn};
 ghost use Rattle.merge_rules.specs.Log.{restrict, extend, takeOut, undo, rollbackMerge, isRootExtension, isMark};
 ghost use Rattle.changes.specs.Answers.{outcomeIs};
 ghost use Rattle.changes.specs.Places.{FirstPlace, isChild};
+ghost use Rattle.changes.specs.Runs.{withoutRun, RunIn, StandsBefore, OnceIf, Leads};
 ghost use Rattle.table_test.specs.Fits.{KeepsModel, KeepsState};
 
 // The set becomes `files`, and the log keeps the old one.
@@ -100,57 +103,144 @@ pub fn place_of(model: &[u64], p: Element, e: Element) -> Found
     Found::Missing
 }
 
-// The first place of e, if any, leaves the list of p.
-fn take_out(model: &mut [u64], e: Element, p: Element)
+// The last place of e in the list of p, the first one too where the list has no element twice.
+fn last_place_of(model: &[u64], p: Element, e: Element) -> Found
     requires { ⌜ GoodModel (now model) ⌝ }
     requires { ⌜ p .0 < countOf (modelOf (now model)) ⌝ }
-    ensures { λ _. ⌜ HoldsModel (now (model .exit)) (takeOut (e .0) (p .0) (modelOf (now (model .entry)))) ⌝ }
-    ensures { λ _. ⌜ KeepsModel (now (model .entry)) (now (model .exit)) ⌝ }
+    requires { ⌜ onceIn (listOf (modelOf (now model)) (p .0)) ≡ true ⌝ }
+    ensures { λ r. ⌜ FirstPlace (e .0) (listOf (modelOf (now (model .entry))) (p .0)) r ⌝ }
 {
-    let found = place_of(model, p, e);
-    let Found::At(i) = found else {
-        return;
-    };
-    remove_item(model, p, i);
+    let mut last = list_length(model, p);
+    while 0 < last {
+        last -= 1;
+        let a = item_at(model, p, last);
+        if is_child(a, e) {
+            return Found::At(last);
+        }
+    }
+    Found::Missing
 }
 
-fn undo_entry(model: &mut [u64], a: Entry)
+// The first place of e in the list of p: from the back where no list has an element twice, since what was imported last mostly stands there.
+fn find_place(model: &[u64], p: Element, e: Element, once: bool) -> Found
     requires { ⌜ GoodModel (now model) ⌝ }
-    requires { ⌜ EntryIn (countOf (modelOf (now model))) (entryIs a) ⌝ }
-    ensures { λ _. ⌜ HoldsModel (now (model .exit)) (undo (entryIs a) (modelOf (now (model .entry)))) ⌝ }
+    requires { ⌜ p .0 < countOf (modelOf (now model)) ⌝ }
+    requires { ⌜ OnceIf once (modelOf (now model)) ⌝ }
+    ensures { λ r. ⌜ FirstPlace (e .0) (listOf (modelOf (now (model .entry))) (p .0)) r ⌝ }
+{
+    if once {
+        return last_place_of(model, p, e);
+    }
+    place_of(model, p, e)
+}
+
+// Items that are to leave the list of p: k of them, the first at place i. What a merge imported one behind the other leaves at once.
+pub struct Run {
+    pub p: Element,
+    pub i: usize,
+    pub k: usize,
+}
+
+// e of the list of p stands right before them.
+fn stands_before(model: &[u64], r: Run, p: Element, e: Element) -> bool
+    requires { ⌜ GoodModel (now model) ⌝ }
+    requires { ⌜ RunIn (modelOf (now model)) r ⌝ }
+    ensures { λ b. ⌜ (b ≡ true → StandsBefore (modelOf (now (model .entry))) r (p .0) (e .0)) ⌝ }
+{
+    if r.p.0 != p.0 {
+        return false;
+    }
+    if r.i == 0 {
+        return false;
+    }
+    let before = r.i - 1;
+    let a = item_at(model, r.p, before);
+    is_child(a, e)
+}
+
+fn remove_run(model: &mut [u64], r: Run)
+    requires { ⌜ GoodModel (now model) ⌝ }
+    requires { ⌜ RunIn (modelOf (now model)) r ⌝ }
+    ensures { λ _. ⌜ HoldsModel (now (model .exit)) (withoutRun r (modelOf (now (model .entry)))) ⌝ }
     ensures { λ _. ⌜ KeepsModel (now (model .entry)) (now (model .exit)) ⌝ }
+{
+    if r.k == 0 {
+        return;
+    }
+    remove_items(model, r.p, r.i, r.k);
+}
+
+// The first place of e, if any, is to leave the list of p.
+fn take_out(model: &mut [u64], r: Run, e: Element, p: Element, once: bool) -> Run
+    requires { ⌜ GoodModel (now model) ⌝ }
+    requires { ⌜ RunIn (modelOf (now model)) r ⌝ }
+    requires { ⌜ p .0 < countOf (modelOf (now model)) ⌝ }
+    requires { ⌜ OnceIf once (modelOf (now model)) ⌝ }
+    ensures { λ q. ⌜ Leads (takeOut (e .0) (p .0)) once r q (now (model .entry)) (now (model .exit)) ⌝ }
+{
+    if once {
+        if stands_before(model, r, p, e) {
+            let i = r.i - 1;
+            let k = r.k + 1;
+            return Run { p, i, k };
+        }
+    }
+    remove_run(model, r);
+    let found = find_place(model, p, e, once);
+    let Found::At(i) = found else {
+        return Run { p, i: 0, k: 0 };
+    };
+    Run { p, i, k: 1 }
+}
+
+fn undo_entry(model: &mut [u64], r: Run, a: Entry, once: bool) -> Run
+    requires { ⌜ GoodModel (now model) ⌝ }
+    requires { ⌜ RunIn (modelOf (now model)) r ⌝ }
+    requires { ⌜ EntryIn (countOf (modelOf (now model))) (entryIs a) ⌝ }
+    requires { ⌜ OnceIf once (modelOf (now model)) ⌝ }
+    ensures { λ q. ⌜ Leads (undo (entryIs a)) once r q (now (model .entry)) (now (model .exit)) ⌝ }
 {
     match a {
         Entry::Import(e, p, parent, set) => {
-            take_out(model, e, p);
+            let q = take_out(model, r, e, p, once);
             set_parent(model, e, parent);
             set_set(model, e, set);
+            q
         }
         Entry::Restriction(e, set) => {
             set_set(model, e, set);
+            r
         }
         Entry::Extension(e, f) => {
             let set = set_of(model, e).without(f);
             set_set(model, e, set);
+            r
         }
     }
 }
 
-// The newest entry is undone first, down to the mark.
-pub fn rollback_merge(model: &mut [u64], log: &mut [u64], mark: usize)
+// The newest entry is undone first, down to the mark; `once` says that no list has an element twice.
+pub fn rollback_merge(model: &mut [u64], log: &mut [u64], mark: usize, once: bool)
     requires { ⌜ GoodModel (now model) ⌝ }
     requires { ⌜ GoodLog (now log) ⌝ }
     requires { ⌜ Each (EntryIn (countOf (modelOf (now model)))) (logOf (now log)) ⌝ }
+    requires { ⌜ OnceIf once (modelOf (now model)) ⌝ }
     ensures { λ _. ⌜ stateIn (now (model .exit)) (now (log .exit)) ≡ rollbackMerge mark (stateIn (now (model .entry)) (now (log .entry))) ⌝ }
     ensures { λ _. ⌜ KeepsState (now (model .entry)) (now (log .entry)) (now (model .exit)) (now (log .exit)) ⌝ }
 {
     let mut n = log_length(log);
+    let mut r = Run {
+        p: Element(0),
+        i: 0,
+        k: 0,
+    };
     while mark < n {
         n -= 1;
         let a = entry_at(log, n);
         pop_entry(log);
-        undo_entry(model, a);
+        r = undo_entry(model, r, a, once);
     }
+    remove_run(model, r);
 }
 
 fn is_root_extension(a: Entry) -> bool

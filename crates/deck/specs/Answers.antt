@@ -1,15 +1,15 @@
 -- What the answers of the code stand for in the rules. Assumes nothing.
 use mathlib.Core.Bool.{true, false}
-use mathlib.Core.List.{List, [], _∷_, _++_}
+use mathlib.Core.List.{List, [], _∷_}
 use mathlib.Core.Option.{Option, none, some}
 use mathlib.Core.Path.{_≡_}
 use Prim.Native.Nat.{ℕ, suc, _+_, _≤_, _<_}
 use lib.Dec.{eqb}
 use lib.ListN.{length, getD, take}
 use Rattle.tables.specs.Cells.{between}
-use Rattle.tables.specs.Limits.{fileLimit, versionLimit, pathLimit}
+use Rattle.tables.specs.Limits.{fileLimit, versionLimit}
 use Rattle.tables.specs.declared.path.Path.{Path}
-use Rattle.tables.specs.Paths.{cellsOf, partsOf, pathCells}
+use Rattle.tables.specs.Paths.{partsOf}
 use Rattle.tables.specs.Records.{SchemaPath, modes, characters, mults, any, TypeRow, Group, SubElement, File, Text}
 use Rattle.tables.specs.SetCells.{setIs}
 use Rattle.tables.specs.Texts.{textFrom}
@@ -91,9 +91,9 @@ unfoldable pub pathIs : PathField → Option SchemaPath
 pathIs (Parts p) = some (partsOf p)
 pathIs BadPath = none
 
--- zeros stand behind the path's parts
+-- the path has a part
 abbrev pub PathFits : Path → Type 0
-PathFits p = cellsOf p ≡ pathCells pathLimit (partsOf p)
+PathFits p = 0 < length (partsOf p)
 
 abbrev pub pathFits : PathField → Type 0
 pathFits (Parts p) = PathFits p
@@ -102,11 +102,6 @@ pathFits BadPath = Unit {0}
 pub record PathReads (r : PathField) (o : Option SchemaPath) : Type 0 where
   pub is : pathIs r ≡ o
   pub fits : pathFits r
-
--- r is the path p with one part more
-pub record PathPut (p : Path) (v : ℕ) (r : Path) : Type 0 where
-  pub is : partsOf r ≡ partsOf p ++ (v ∷ [])
-  pub fits : PathFits r
 
 unfoldable pub textIs : TextField → Option Text
 textIs (TextCells kind value) = some (textFrom kind value)
@@ -156,7 +151,7 @@ lineIs Bad = none
 -- the numbers of a line are those of the rules' cases
 abbrev pub lineFits : program.Line → Type 0
 lineFits (T c) = (c .mode < 5) × (c .named < 2)
-lineFits (G c) = (c .mode < 4) × PathFits (c .path)
+lineFits (G c) = c .mode < 4
 lineFits (S c) = (c .mult < 3) × PathFits (c .path)
 lineFits (F c) = (c .file .0 < fileLimit) × (c .version < versionLimit)
 lineFits M = Unit {0}

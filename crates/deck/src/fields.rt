@@ -1,10 +1,11 @@
 // Fields of a line: numbers, paths, texts.
 ghost use mathlib.Core.Path.{_≡_};
+ghost use mathlib.Core.List.{[], _∷_, _++_};
 ghost use mathlib.Core.Option.{some, bind};
 ghost use Prim.Native.Nat.{_≤_, _<_, _^_};
 ghost use lib.ListN.{length};
 ghost use Rattle.deck.specs.Deck.{digit, plain, number, pathField, printable, byLetter, texts, textS};
-ghost use Rattle.deck.specs.Answers.{whole, partAt, Next, numIs, PathReads, PathPut, TextReads};
+ghost use Rattle.deck.specs.Answers.{whole, partAt, Next, numIs, PathReads, TextReads};
 ghost use Rattle.tables.specs.Limits.{deckLimit, pathLimit};
 ghost use Rattle.tables.specs.Lists.{allOf};
 ghost use Rattle.tables.specs.Paths.{partsOf};
@@ -114,7 +115,7 @@ pub enum PathField {
 // The path with one more part behind its n parts.
 fn with_part(p: Path, n: usize, v: u64) -> Path
     requires { ⌜ (length (partsOf p) ≡ n) × (n < pathLimit) × (v < 2 ^ 32) ⌝ }
-    ensures { λ r. ⌜ PathPut p v r ⌝ }
+    ensures { λ r. ⌜ partsOf r ≡ partsOf p ++ (v ∷ []) ⌝ }
 {
     match n {
         0 => Path(v + 1, 0, 0, 0),

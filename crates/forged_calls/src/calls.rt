@@ -169,7 +169,7 @@ fn ask(
     y: u64,
     z: u64,
 ) {
-    let mut room = [0u64; ELEMENTS_SIZE + 1];
+    let mut room = [0u64; SCHEMA_SIZE + 1];
     match op {
         b'a' => range_line(x, y, z, range(deck, schema, elements, model, log, x, y, z)),
         b'c' => resized(deck, schema, elements, model, log, &mut room, x, y as usize),

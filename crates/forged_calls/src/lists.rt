@@ -71,7 +71,7 @@ pub fn wrong(deck: &[u8]) {
     run(
         b"schema, elements, model and log, each of no cell, a cell too few, the right size, a cell too many\n",
         deck,
-        b"cells 0 0\ncells 0 5891\ncells 0 5892\ncells 0 5893\ncells 1 0\ncells 1 7298\ncells 1 7299\ncells 1 7300\ncells 2 0\ncells 2 5121\ncells 2 5122\ncells 2 5123\ncells 3 0\ncells 3 5120\ncells 3 5121\ncells 3 5122\n",
+        b"cells 0 0\ncells 0 8963\ncells 0 8964\ncells 0 8965\ncells 1 0\ncells 1 7298\ncells 1 7299\ncells 1 7300\ncells 2 0\ncells 2 5121\ncells 2 5122\ncells 2 5123\ncells 3 0\ncells 3 5120\ncells 3 5121\ncells 3 5122\n",
     );
 }
 

@@ -1,8 +1,13 @@
 // The four tables, one behind the other in one slice, and what both tests say of them.
 
 use state_test::state;
+use table_test::index_test::fill_index;
 use table_test::test;
 use tables::elements::ELEMENTS_SIZE;
+use tables::index::INDEX_SIZE;
+use tables::index::Index;
+use tables::limits::GROUP_LIMIT;
+use tables::limits::ROW_LIMIT;
 use tables::log::LOG_SIZE;
 use tables::model::MODEL_SIZE;
 use tables::schema::SCHEMA_SIZE;
@@ -42,6 +47,39 @@ pub fn put(t: &mut [u64], from: usize, values: &[u64]) {
     }
 }
 
+// An index of a schema table built anew, where the counts are in their range.
+fn reindex(schema: &mut [u64], x: Index) {
+    if schema.len() != SCHEMA_SIZE {
+        return;
+    }
+    if GROUP_LIMIT < schema[1] as usize {
+        return;
+    }
+    if ROW_LIMIT < schema[2] as usize {
+        return;
+    }
+    let mut cells = [0u64; INDEX_SIZE];
+    fill_index(&mut cells, schema, x);
+    put(schema, x.at(), &cells);
+}
+
+fn reindex_all(schema: &mut [u64]) {
+    reindex(schema, Index::Groups);
+    reindex(schema, Index::Names);
+    reindex(schema, Index::Paths);
+}
+
+// The value for the one at this offset, and the indexes that fit it; put once more behind them, since it may be a cell of theirs.
+fn exchange_indexed(t: &mut [u64], from: usize, offset: usize, v: u64) -> u64 {
+    if t.len() != CELLS {
+        return 0;
+    }
+    let old = exchange(t, from, offset, v);
+    reindex_all(&mut t[0..ELEMENTS]);
+    exchange(t, from, offset, v);
+    old
+}
+
 // What the test of the tables alone says, and the whole.
 pub fn ask_of(n: u64, schema: &[u64], elements: &[u64], model: &[u64], log: &[u64]) {
     let deck = [0u8; DECK];
@@ -71,14 +109,15 @@ pub fn ask(n: u64, t: &[u64]) {
     );
 }
 
-// Offsets from a place, each with a wrong value: the tests with each value in turn, numbered from n on, and the number put back.
+// Offsets from a place, each with a wrong value: the tests with each value in turn, numbered from n on, and the number put back. The indexes
+// fit the rows in each, so that a wrong number of a row is refused for itself.
 pub fn forge(t: &mut [u64], n: u64, from: usize, cases: &[u64]) {
     let mut i: usize = 0;
     while i < cases.len() / 2 {
         let offset = cases[i * 2] as usize;
-        let old = exchange(t, from, offset, cases[i * 2 + 1]);
+        let old = exchange_indexed(t, from, offset, cases[i * 2 + 1]);
         ask(std::num::wrapping_add_u64(n, i as u64), t);
-        exchange(t, from, offset, old);
+        exchange_indexed(t, from, offset, old);
         i += 1;
     }
 }

@@ -25,7 +25,10 @@ use tables::model::SETS_AT;
 use tables::model::STARTS_AT;
 use tables::model::TEXT_CELLS_AT as TEXT;
 use tables::schema::FILES_AT;
+use tables::schema::GROUP_INDEX_AT;
 use tables::schema::GROUPS_AT;
+use tables::schema::NAME_INDEX_AT;
+use tables::schema::PATH_INDEX_AT;
 use tables::schema::ROW_WIDTH;
 use tables::schema::ROWS_AT;
 use tables::schema::TYPES_AT;
@@ -37,6 +40,12 @@ fn schema(t: &mut [u64]) {
     put(t, ROWS_AT, &[0, 1, 0, 0, 0, 3, 1, 2, 15]);
     put(t, ROWS_AT + ROW_WIDTH, &[0, 2, 0, 0, 0, 4, 1, 0, 15]);
     put(t, FILES_AT, &[0, 2, 1, 3]);
+}
+
+fn indexes(t: &mut [u64]) {
+    put(t, GROUP_INDEX_AT + 6, &[1]);
+    put(t, NAME_INDEX_AT + 3, &[1, 2]);
+    put(t, PATH_INDEX_AT + 1, &[1, 2]);
 }
 
 fn elements(t: &mut [u64]) {
@@ -127,6 +136,7 @@ fn sizes(t: &[u64], short: &[u64]) {
 
 fn build(t: &mut [u64]) {
     schema(t);
+    indexes(t);
     elements(t);
     model(t);
     log(t);

@@ -13,6 +13,7 @@ use tables::elements::TEXTS_AT;
 use tables::elements::TREE_WIDTH;
 use tables::elements::TREES_AT;
 use tables::file_set::SET_WIDTH;
+use tables::index::BUCKETS;
 use tables::log::ENTRIES_AT;
 use tables::log::ENTRY_WIDTH;
 use tables::log::OLD_SET_AT;
@@ -23,15 +24,18 @@ use tables::model::STARTS_AT;
 use tables::model::TEXT_CELLS_AT as TEXT;
 use tables::schema::FILE_WIDTH;
 use tables::schema::FILES_AT;
+use tables::schema::GROUP_INDEX_AT;
 use tables::schema::GROUP_WIDTH;
 use tables::schema::GROUPS_AT;
+use tables::schema::NAME_INDEX_AT;
+use tables::schema::PATH_INDEX_AT;
 use tables::schema::ROW_WIDTH;
 use tables::schema::ROWS_AT;
 use tables::schema::TYPE_WIDTH;
 use tables::schema::TYPES_AT;
 
 fn types_and_groups(t: &mut [u64]) {
-    put(t, 0, &[3, 5, 6, 4]);
+    put(t, 0, &[3, 6, 7, 4]);
     put(t, TYPES_AT, &[0, 0, 15, 4, 0, 0, 2, 0, 15]);
     put(t, GROUPS_AT, &[0, 3, 0, 0, 0, 1, 0, 3, 1, 0, 0, 0]);
     put(
@@ -39,7 +43,11 @@ fn types_and_groups(t: &mut [u64]) {
         GROUPS_AT + 2 * GROUP_WIDTH,
         &[2, 2, 0, 0, 0, 0, 2, 4, 0, 0, 0, 0],
     );
-    put(t, GROUPS_AT + 4 * GROUP_WIDTH, &[0, 3, 2, 0, 0, 0]);
+    put(
+        t,
+        GROUPS_AT + 4 * GROUP_WIDTH,
+        &[0, 3, 2, 0, 0, 0, 0, 152, 0, 0, 0, 0],
+    );
 }
 
 fn rows_and_files(t: &mut [u64]) {
@@ -48,8 +56,43 @@ fn rows_and_files(t: &mut [u64]) {
     put(t, ROWS_AT + 2 * ROW_WIDTH, &[0, 3, 1, 2, 0, 5, 2, 2, 15]);
     put(t, ROWS_AT + 3 * ROW_WIDTH, &[2, 2, 1, 0, 0, 3, 1, 2, 15]);
     put(t, ROWS_AT + 4 * ROW_WIDTH, &[2, 1, 0, 0, 0, 6, 2, 2, 15]);
-    put(t, ROWS_AT + 5 * ROW_WIDTH, &[2, 3, 0, 0, 0, 5, 2, 2, 15]);
+    put(
+        t,
+        ROWS_AT + 5 * ROW_WIDTH,
+        &[2, 3, 0, 0, 0, 5, 2, 2, 15, 0, 151, 0, 0, 0, 153, 2, 2, 15],
+    );
     put(t, FILES_AT, &[0, 2, 1, 3, 3, 1, 4, 0]);
+}
+
+// Groups 2 and 5 share a bucket, by name rows 3 and 6, by path rows 4 and 6.
+
+fn group_index(t: &mut [u64]) {
+    put(t, GROUP_INDEX_AT + 3, &[1]);
+    put(t, GROUP_INDEX_AT + 152, &[6, 0, 4]);
+    put(t, GROUP_INDEX_AT + 482, &[2, 5]);
+    put(t, GROUP_INDEX_AT + BUCKETS + 5, &[3]);
+}
+
+fn name_index(t: &mut [u64]) {
+    put(t, NAME_INDEX_AT + 3, &[1, 2, 3]);
+    put(t, NAME_INDEX_AT + 153, &[7, 0, 6, 5]);
+    put(t, NAME_INDEX_AT + BUCKETS + 6, &[4]);
+}
+
+fn path_index(t: &mut [u64]) {
+    put(t, PATH_INDEX_AT + 1, &[1, 2]);
+    put(t, PATH_INDEX_AT + 137, &[4]);
+    put(t, PATH_INDEX_AT + 151, &[7, 0, 6]);
+    put(t, PATH_INDEX_AT + 312, &[3]);
+    put(t, PATH_INDEX_AT + BUCKETS + 6, &[5]);
+}
+
+fn schema(t: &mut [u64]) {
+    types_and_groups(t);
+    rows_and_files(t);
+    group_index(t);
+    name_index(t);
+    path_index(t);
 }
 
 fn elements(t: &mut [u64]) {
@@ -178,9 +221,19 @@ fn forge_depths(t: &mut [u64]) {
     forge(t, 46, ELEMENTS + ELEMENTS_AT + 4 * ELEMENT_WIDTH, &[2, 1]);
 }
 
+// Of each index the heads: a row of another bucket, the row before the latest, no row's; and the links: to a row of another bucket, past the
+// rows, no row's.
+fn forge_indexes(t: &mut [u64]) {
+    forge(t, 48, GROUP_INDEX_AT, &[152, 4, 152, 3, 0, 1]);
+    forge(t, 51, GROUP_INDEX_AT + BUCKETS, &[5, 4, 5, 7, 6, 1]);
+    forge(t, 54, NAME_INDEX_AT, &[153, 6, 153, 4, 0, 1]);
+    forge(t, 57, NAME_INDEX_AT + BUCKETS, &[6, 6, 6, 8, 7, 1]);
+    forge(t, 60, PATH_INDEX_AT, &[151, 6, 151, 5, 0, 1]);
+    forge(t, 63, PATH_INDEX_AT + BUCKETS, &[6, 6, 6, 8, 7, 1]);
+}
+
 fn build(t: &mut [u64]) {
-    types_and_groups(t);
-    rows_and_files(t);
+    schema(t);
     elements(t);
     model(t);
     log(t);
@@ -201,6 +254,8 @@ fn ask_all(t: &mut [u64]) {
     ask(0, t);
     forge_all(t);
     ask(47, t);
+    forge_indexes(t);
+    ask(66, t);
 }
 
 pub fn run() {

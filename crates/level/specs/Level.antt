@@ -1,13 +1,16 @@
 -- A level by its plan: restrictions and imports, then the pairs. Assumes nothing.
 use mathlib.Core.Bool.{true, false}
+use mathlib.Core.List.{[]}
+use mathlib.Core.Path.{_≡_}
+use Prim.Native.Nat.{ℕ, _<_}
 use lib.Dec.{eqb}
 use Rattle.tables.specs.FileSets.{noSet}
-use Rattle.tables.specs.Records.{Element, FileNumber, FileSet, Version, State, Fixed, setOf}
+use Rattle.tables.specs.Records.{Element, FileNumber, FileSet, Version, Model, State, Fixed, setOf}
 use Rattle.deck.specs.Schema.{versionOf}
 use Rattle.merge_rules.specs.Import.{importNewItems}
 use Rattle.merge_rules.specs.Level.{restrictElements, mergeSubElements}
 use Rattle.merge_rules.specs.Log.{restrict}
-use Rattle.merge_rules.specs.Pairing.{Plan}
+use Rattle.merge_rules.specs.Pairing.{childrenOf, Plan}
 use Rattle.merge_rules.specs.Refusals.{Outcome, done, refused, unmergeable, usedTwice, _>>=_}
 use Rattle.pairing.specs.Plans.{LevelPlan, levelPlan, childUsedTwice, levelUnmergeable}
 
@@ -25,3 +28,9 @@ unfoldable pub mergeLevel : (FileSet → Element → Element → State → Outco
 mergeLevel lower x f v files a (levelPlan plan) s = applyPlan x f files a plan s >>= mergeSubElements lower x f v a files (plan .pairs)
 mergeLevel lower x f v files a (childUsedTwice c) s = refused (usedTwice c)
 mergeLevel lower x f v files a levelUnmergeable s = refused (unmergeable a)
+
+-- a level is left, and neither a nor b lists an element
+pub record Bare (d : ℕ) (m : Model) (a b : Element) : Type 0 where
+  pub deep : 0 < d
+  pub first : childrenOf m a ≡ []
+  pub second : childrenOf m b ≡ []

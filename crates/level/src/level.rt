@@ -1,4 +1,5 @@
 // Level and Pairs, which call each other, one depth lower each time.
+use crate::settle::extend_pair;
 use crate::settle::files_of_pair;
 use crate::settle::settle;
 use changes::import::import_new_items;
@@ -11,11 +12,14 @@ use schema_calls::files::least_version;
 use tables::file_set::FileSet;
 use tables::limits::ITEM_LIMIT;
 use tables::log::log_length;
+use tables::model::Item;
+use tables::model::item_at;
 use tables::model::list_length;
 use tables::model::set_of;
 use tables::numbers::Element;
 use tables::numbers::FileNumber;
-ghost use mathlib.Core.List.{List};
+ghost use mathlib.Core.Bool.{true};
+ghost use mathlib.Core.List.{List, []};
 ghost use mathlib.Core.Path.{_≡_};
 ghost use Prim.Native.Nat.{ℕ, suc, _+_, _*_, _<_, _≤_};
 ghost use lib.ListN.{length};
@@ -32,9 +36,10 @@ ghost use Rattle.table_test.specs.SchemaTest.{TestedSchema};
 ghost use Rattle.deck.specs.Schema.{versionOf};
 ghost use Rattle.state_test.specs.StateTest.{fixedIn, stateIn};
 ghost use Rattle.merge_rules.specs.Level.{restrictElements, mergeElement, mergeSubElements};
+ghost use Rattle.merge_rules.specs.Pairing.{childrenOf};
 ghost use Rattle.pairing.specs.Plans.{planIn, RowsIn};
 ghost use Rattle.changes.specs.Answers.{outcomeIs};
-ghost use Rattle.level.specs.Level.{restrictNew, applyPlan};
+ghost use Rattle.level.specs.Level.{restrictNew, applyPlan, Bare};
 
 // Cells for the plan of any level.
 pub const WORK_SIZE: usize = 7 * ITEM_LIMIT;
@@ -48,6 +53,42 @@ fn level_room(model: &[u64], a: Element, b: Element) -> usize
     ensures { λ r. ⌜ r ≤ 7 * itemLimit ⌝ }
 {
     2 * list_length(model, a) + 5 * list_length(model, b)
+}
+
+// True only where the element lists no element: its list is empty, or one text.
+fn is_leaf(model: &[u64], e: Element) -> bool
+    requires { ⌜ GoodModel (now model) ⌝ }
+    requires { ⌜ e .0 < countOf (modelOf (now model)) ⌝ }
+    ensures { λ r. ⌜ (r ≡ true → childrenOf (modelOf (now (model .entry))) (e .0) ≡ []) ⌝ }
+{
+    let n = list_length(model, e);
+    if n == 0 {
+        return true;
+    }
+    if n != 1 {
+        return false;
+    }
+    let a = item_at(model, e, 0);
+    match a {
+        Item::Child(_) => false,
+        Item::Text(_) => true,
+    }
+}
+
+// True only where the level of a and b, at this depth, changes nothing.
+fn is_bare(model: &[u64], a: Element, b: Element, depth: usize) -> bool
+    requires { ⌜ GoodModel (now model) ⌝ }
+    requires { ⌜ a .0 < countOf (modelOf (now model)) ⌝ }
+    requires { ⌜ b .0 < countOf (modelOf (now model)) ⌝ }
+    ensures { λ r. ⌜ (r ≡ true → Bare depth (modelOf (now (model .entry))) (a .0) (b .0)) ⌝ }
+{
+    if depth == 0 {
+        return false;
+    }
+    if !is_leaf(model, a) {
+        return false;
+    }
+    is_leaf(model, b)
 }
 
 // An A-only element without a set gets the level's files.
@@ -331,6 +372,14 @@ fn merge_sub_elements(
         }
         let a = Element(work[row] as usize);
         let b = Element((mate - 1) as usize);
+        if is_bare(model, a, b, depth) {
+            let r = extend_pair(model, log, f, a);
+            if let Outcome::Done = r {
+                i += 1;
+                continue;
+            }
+            return r;
+        }
         let own = files_of_pair(model, files, a);
         let mark = log_length(log);
         let below = merge_element(

@@ -50,7 +50,7 @@ pub fn files_of_pair(model: &[u64], files: FileSet, a: Element) -> FileSet
 }
 
 // An A with a set gains the new file.
-fn extend_pair(model: &mut [u64], log: &mut [u64], f: FileNumber, a: Element) -> Outcome
+pub fn extend_pair(model: &mut [u64], log: &mut [u64], f: FileNumber, a: Element) -> Outcome
     requires { ⌜ GoodModel (now model) ⌝ }
     requires { ⌜ GoodLog (now log) ⌝ }
     requires { ⌜ a .0 < countOf (modelOf (now model)) ⌝ }
@@ -156,7 +156,7 @@ fn fall_back(
     ensures { λ r. ⌜ ((deck : List ℕ) → outcomeIs r (stateIn (now (model .exit)) (now (log .exit))) ≡ fallBack (fixedIn deck (now (schema .entry)) (now (elements .entry))) (f .0) v (p .0) (record { a = a .0; b = b .0 }) (setIs files) mark (e .0) (stateIn (now (model .entry)) (now (log .entry)))) ⌝ }
     ensures { λ _. ⌜ KeepsState (now (model .entry)) (now (log .entry)) (now (model .exit)) (now (log .exit)) ⌝ }
 {
-    rollback_merge(model, log, mark);
+    rollback_merge(model, log, mark, false);
     let r = restrict(model, log, a, files);
     if let Outcome::Done = r {
         return import_instead(schema, elements, model, log, f, v, p, a, b, e);

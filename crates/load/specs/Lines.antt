@@ -1,6 +1,6 @@
 -- What the program and the tables hold of the lines so far. Assumes nothing.
 use mathlib.Core.Bool.{true, false}
-use mathlib.Core.List.{List}
+use mathlib.Core.List.{List, []}
 use mathlib.Core.Option.{Option}
 use mathlib.Core.Path.{_≡_}
 use Prim.Native.Nat.{ℕ, zero, suc, _≤_, _<_}
@@ -14,7 +14,8 @@ use Rattle.tables.specs.ElementsTable.{elementsOf, GoodElements}
 use Rattle.tables.specs.ModelTable.{countOf, modelOf, GoodModel}
 use Rattle.tables.specs.SchemaTable.{schemaOf, GoodSchema}
 use Rattle.deck.specs.Deck.{Line}
-use Rattle.deck.specs.Load.{Loading, Res, ok, refused, form, given, _>>=_, loadLine}
+use Rattle.deck.specs.Load.{Loading, Res, ok, refused, form, kindG, given, _>>=_, loadLine}
+use Rattle.schema_calls.specs.Calls.{PathsClosed}
 use Rattle.load.specs.declared.progress.Progress.{Progress}
 use Rattle.load.specs.declared.progress.Verdict.{Verdict}
 use Rattle.load.specs.declared.progress.Verdict.the-variants.{Taken, Refused}
@@ -42,7 +43,7 @@ unfoldable pub taken : {A : Type 0} → (A → ℕ) → ℕ → List A → ℕ
 taken number zero l = 0
 taken number (suc n) l = elim (anyOf (λ a. eqb (number a) n) l) [ true ↦ suc (taken number n l) | false ↦ taken number n l ]
 
--- what each line keeps, so that the tables have room for the next one
+-- what each line keeps, so that the tables have room for the next one; early: S rows stand behind all groups
 pub record LoadingFits (l : Loading) : Type 0 where
   pub same : countOf (l .model) ≡ length (l .elements .names)
   pub opened : Each (λ (e : Element). e < length (l .elements .names)) (l .above)
@@ -52,6 +53,8 @@ pub record LoadingFits (l : Loading) : Type 0 where
   pub files : Each (λ (d : File). d .file < fileLimit) (l .schema .files)
   pub oneLine : length (l .schema .files) ≡ taken (λ (d : File). d .file) fileLimit (l .schema .files)
   pub oneTree : length (l .elements .trees) ≡ taken (λ (t : Tree). t .file) fileLimit (l .elements .trees)
+  pub closed : PathsClosed (l .schema)
+  pub early : l .latest ≤ kindG → l .schema .subElements ≡ []
 
 pub record GoodLoading (p : Progress) (schema elements model : List ℕ) : Type 0 where
   pub depth : p .depth ≤ openLimit

@@ -40,6 +40,7 @@ ghost use Rattle.tables.specs.Records.{File};
 ghost use Rattle.tables.specs.SchemaTable.{schemaOf, GoodSchema};
 ghost use Rattle.deck.specs.Answers.{typeIs, groupIs, rowIs, fileIs, PathFits};
 ghost use Rattle.deck.specs.Load.{loadT, loadG, loadS, loadF};
+ghost use Rattle.schema_calls.specs.Calls.{PathsClosed};
 ghost use Rattle.load.specs.Lines.{loadingOf, taken, GoodLoading, StepResult};
 
 // After a line of this kind.
@@ -79,7 +80,7 @@ pub fn load_t(schema: &mut [u64], p: Progress, c: TypeCells) -> Step
 // `G,type,path,mode`
 pub fn load_g(schema: &mut [u64], p: Progress, c: GroupCells) -> Step
     requires { ⌜ GoodSchema (now schema) ⌝ }
-    requires { ⌜ (c .mode < 4) × PathFits (c .path) ⌝ }
+    requires { ⌜ c .mode < 4 ⌝ }
     ensures { λ r. ⌜ ((elements model : List ℕ) → GoodLoading p (now (schema .entry)) elements model → StepResult r (now (schema .exit)) elements model (loadG (loadingOf p (now (schema .entry)) elements model) (groupIs c))) ⌝ }
 {
     let n = group_count(schema);
@@ -100,6 +101,7 @@ pub fn load_g(schema: &mut [u64], p: Progress, c: GroupCells) -> Step
 pub fn load_s(schema: &mut [u64], p: Progress, c: RowCells) -> Step
     requires { ⌜ GoodSchema (now schema) ⌝ }
     requires { ⌜ (c .mult < 3) × PathFits (c .path) ⌝ }
+    requires { ⌜ PathsClosed (schemaOf (now schema)) ⌝ }
     ensures { λ r. ⌜ ((elements model : List ℕ) → GoodLoading p (now (schema .entry)) elements model → StepResult r (now (schema .exit)) elements model (loadS (loadingOf p (now (schema .entry)) elements model) (rowIs c))) ⌝ }
 {
     let n = row_count(schema);

@@ -203,6 +203,6 @@ pub fn rollback(
     }
     let n = log_length(log);
     let m = mark as usize;
-    rollback_merge(model, log, m);
+    rollback_merge(model, log, m, true);
     RollbackAnswer::TakenOff(n - m)
 }

@@ -12,3 +12,4 @@ pub mod Children
 pub mod Steps
 pub mod Levels
 pub mod Laying
+pub mod Alone

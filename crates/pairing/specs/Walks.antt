@@ -8,9 +8,9 @@ use lib.Dec.{eqb, ltb}
 use lib.ListN.{length, getD, take, drop}
 use Rattle.tables.specs.Limits.{elementLimit, itemLimit}
 use Rattle.tables.specs.Lists.{anyOf, keep}
-use Rattle.tables.specs.Records.{Element, Model, Fixed}
+use Rattle.tables.specs.Records.{Element, TypeNumber, Model, Fixed}
 use Rattle.tables.specs.ModelTable.{countOf}
-use Rattle.merge_rules.specs.Pairing.{itemName, definition, childrenOf, Action, mergeEqual, mergeUnequal, aOnly, bOnly, unmergeableParent, Pair, NewItem, Plan, Walked, planned, unmergeableIn, importUnpaired, walk}
+use Rattle.merge_rules.specs.Pairing.{itemName, definition, childrenOf, Action, mergeEqual, mergeUnequal, aOnly, bOnly, unmergeableParent, Pair, NewItem, Plan, Walked, planned, unmergeableIn, importUnpaired, actionOf, walk}
 use Rattle.pairing.specs.declared.plan.Sides.{Sides}
 use Rattle.pairing.specs.declared.plan.Cursors.{Cursors}
 use Rattle.pairing.specs.declared.action.Action as program
@@ -164,3 +164,9 @@ pub record Laid (m : Model) (a b : Element) (s : Sides) (w : List ℕ) : Type 0 
   pub second : secondChildren s w ≡ childrenOf m b
   pub room : WorkRoom s w 0 0 0
   pub ranged : Ranged (countOf m) s w 0
+
+-- one child on each side, which the rule pairs, whatever else
+pub record Alone (x : Fixed) (m : Model) (t : TypeNumber) (s : Sides) (w : List ℕ) : Type 0 where
+  pub first : s .rows ≡ 1
+  pub second : s .end - s .start ≡ 1
+  pub equal : (splittable : Bool) (bs : List Element) → mergeEqual ≡ actionOf x m t splittable bs (getD w 0 0) (getD w (s .start) 0)

@@ -63,6 +63,16 @@ fn pair_row(work: &mut [u16], uses: &mut [u8], i: usize, e: usize)
     count_use(uses, e, PAIRED);
 }
 
+// The first child of A is paired with the child of B at this place.
+pub fn pair_first(work: &mut [u16], at: usize)
+    requires { ⌜ 1 < length (now work) ⌝ }
+    requires { ⌜ at < length (now work) ⌝ }
+    requires { ⌜ getD (now work) at 0 < elementLimit ⌝ }
+    ensures { λ _. ⌜ now (work .exit) ≡ set (now (work .entry)) 1 (getD (now (work .entry)) at 0 + 1) ⌝ }
+{
+    work[1] = work[at] + 1;
+}
+
 // B-only: the cursor child of B at this position, unless it is already paired. Gives the length of the B-only list.
 fn import_next(work: &mut [u16], uses: &mut [u8], s: Sides, c: Cursors, position: usize) -> usize
     requires { ⌜ WorkRoom s (now work) (c .a) (c .b) (c .new) ⌝ }

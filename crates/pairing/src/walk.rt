@@ -10,12 +10,14 @@ use crate::plan::Planned;
 use crate::plan::Sides;
 use crate::plan::advance;
 use crate::plan::import_rest;
+use crate::plan::pair_first;
 use crate::plan::used_twice;
 use schema_calls::calls::splittable_in;
 use tables::elements::element_type;
 use tables::model::list_length;
 use tables::numbers::Element;
 use tables::numbers::TypeNumber;
+ghost use mathlib.Core.Bool.{true};
 ghost use mathlib.Core.List.{[]};
 ghost use mathlib.Core.Path.{_≡_};
 ghost use Prim.Native.Nat.{_+_, _*_, _<_, _≤_};
@@ -30,7 +32,7 @@ ghost use Rattle.merge_rules.specs.Pairing.{actionOf};
 ghost use Rattle.pairing.specs.Actions.{Listed, Acts, Searches};
 ghost use Rattle.pairing.specs.Plans.{plannedIs, PlanIn, planLevel, checkedPlan};
 ghost use Rattle.table_test.specs.Fits.{GoodFixed, ModelOver};
-ghost use Rattle.pairing.specs.Walks.{firstChildren, secondChildren, nextAction, walkOn, MarkRoom, Marked, MarkedIf, WorkRoom, Ranged};
+ghost use Rattle.pairing.specs.Walks.{firstChildren, secondChildren, nextAction, walkOn, MarkRoom, Marked, MarkedIf, WorkRoom, Ranged, Alone};
 
 // The action of one step, and whether the marks of B's children are now written.
 struct Next {
@@ -206,6 +208,42 @@ fn walk(
     used_twice(work, &uses, s, new)
 }
 
+// True only where A and B have one child each, and the rule pairs the two.
+fn pair_alone(
+    deck: &[u8],
+    schema: &[u64],
+    elements: &[u64],
+    model: &[u64],
+    t: TypeNumber,
+    work: &[u16],
+    s: Sides,
+) -> bool
+    requires { ⌜ GoodFixed (now deck) (now schema) (now elements) ⌝ }
+    requires { ⌜ ModelOver (now elements) (now model) ⌝ }
+    requires { ⌜ t .0 < length (schemaOf (now schema) .types) ⌝ }
+    requires { ⌜ WorkRoom s (now work) 0 0 0 ⌝ }
+    requires { ⌜ Ranged (length (elementsOf (now elements) .names)) s (now work) 0 ⌝ }
+    ensures { λ r. ⌜ (r ≡ true → Alone (fixedIn (now (deck .entry)) (now (schema .entry)) (now (elements .entry))) (modelOf (now (model .entry))) (t .0) s (now (work .entry))) ⌝ }
+{
+    if s.rows != 1 {
+        return false;
+    }
+    let at = s.start;
+    if s.end - at != 1 {
+        return false;
+    }
+    let a = Element(work[0] as usize);
+    let b = Element(work[at] as usize);
+    let decision = cursor_action(deck, schema, elements, model, t, a, b);
+    let Decision::Act(act) = decision else {
+        return false;
+    };
+    if let Action::MergeEqual = act {
+        return true;
+    }
+    false
+}
+
 // The plan of the level of a and b, in the scratch slice.
 pub fn plan_level(
     deck: &[u8],
@@ -231,6 +269,10 @@ pub fn plan_level(
         return Planned::Rows(s.rows, 0);
     }
     let t = element_type(elements, a);
+    if pair_alone(deck, schema, elements, model, t, work, s) {
+        pair_first(work, s.start);
+        return Planned::Rows(1, 0);
+    }
     let splittable = splittable_in(schema, t, v);
     let end = list_length(model, a);
     walk(deck, schema, elements, model, t, splittable, work, s, end)

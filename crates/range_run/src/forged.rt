@@ -1,13 +1,19 @@
 // Tables with one number changed after the load: past its range, against a rule, or against neither.
 use crate::ask::ask;
 use crate::print::word;
+use crate::sizes::copy;
 use load::load::load;
+use table_test::index_test::fill_index;
 use tables::elements::ELEMENT_WIDTH;
 use tables::elements::ELEMENTS_AT;
 use tables::elements::ELEMENTS_SIZE;
 use tables::elements::TEXTS_AT;
 use tables::elements::TREES_AT;
 use tables::file_set::SET_WIDTH;
+use tables::index::INDEX_SIZE;
+use tables::index::Index;
+use tables::limits::GROUP_LIMIT;
+use tables::limits::ROW_LIMIT;
 use tables::log::ENTRIES_AT;
 use tables::log::ENTRY_WIDTH;
 use tables::log::LOG_SIZE;
@@ -72,7 +78,31 @@ fn put_in(
     }
 }
 
-// The tables that load makes of the deck, with the log's entries and the number put in.
+// An index of a schema table built anew, where the counts are in their range.
+fn reindex(schema: &mut [u64], x: Index) {
+    if schema.len() != SCHEMA_SIZE {
+        return;
+    }
+    if GROUP_LIMIT < schema[1] as usize {
+        return;
+    }
+    if ROW_LIMIT < schema[2] as usize {
+        return;
+    }
+    let mut cells = [0u64; INDEX_SIZE];
+    fill_index(&mut cells, schema, x);
+    let at = x.at();
+    copy(&mut schema[at..at + INDEX_SIZE], &cells);
+}
+
+fn reindex_all(schema: &mut [u64]) {
+    reindex(schema, Index::Groups);
+    reindex(schema, Index::Names);
+    reindex(schema, Index::Paths);
+}
+
+// The tables that load makes of the deck, with the log's entries and the number put in, and the indexes that fit it: so a wrong number of a
+// row is refused for itself. Put once more behind them, since it may be a cell of theirs.
 fn load_forged(
     deck: &[u8],
     schema: &mut [u64],
@@ -85,6 +115,8 @@ fn load_forged(
 ) {
     load(deck, schema, elements, model, log);
     put_log(log);
+    put_in(schema, elements, model, log, table, at, v);
+    reindex_all(schema);
     put_in(schema, elements, model, log, table, at, v);
 }
 
@@ -113,6 +145,7 @@ fn passing(deck: &[u8]) {
     forged(deck, b"nothing changed", SCHEMA, 0, 2);
     forged(deck, b"type 0 a choice", SCHEMA, TYPES_AT, 1);
     forged(deck, b"type 0 a bag", SCHEMA, TYPES_AT, 2);
+    forged(deck, b"group's part 4", SCHEMA, GROUPS_AT + 1, 5);
     forged(deck, b"element 5 for element 1", MODEL, ITEMS_AT, 5);
     forged(
         deck,

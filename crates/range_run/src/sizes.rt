@@ -15,7 +15,7 @@ fn get(t: &[u64], at: usize) -> u64 {
 }
 
 // As many cells as there is room for, and then zeros.
-fn copy(to: &mut [u64], from: &[u64]) {
+pub fn copy(to: &mut [u64], from: &[u64]) {
     let mut i: usize = 0;
     while i < to.len() {
         to[i] = get(from, i);

@@ -3,5 +3,7 @@ pub mod Schemas
 pub mod Rows
 pub mod Files
 pub mod Groups
+pub mod Search
 pub mod Beginnings
+pub mod Closed
 pub mod Rules

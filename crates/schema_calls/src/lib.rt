@@ -2,3 +2,4 @@
 pub mod calls;
 pub mod files;
 pub mod rules;
+pub mod search;

@@ -1,24 +1,22 @@
 // Schema rules: what a G row and an S row must keep to, by the rows above it.
+ghost use mathlib.Core.Bool.{_||_};
 ghost use mathlib.Core.Path.{_≡_};
 ghost use Prim.Native.Nat.{_<_, _≤_};
-ghost use lib.ListN.{length, getD, take};
+ghost use lib.ListN.{length, take};
 ghost use Rattle.tables.specs.Lists.{anyOf, allOf};
 ghost use Rattle.tables.specs.Paths.{partsOf};
 ghost use Rattle.tables.specs.Records.{Mode};
-ghost use Rattle.tables.specs.SchemaTable.{schemaOf, GoodSchema, noGroup, noSubElement};
+ghost use Rattle.tables.specs.SchemaTable.{schemaOf, GoodSchema};
 ghost use Rattle.deck.specs.Answers.{rowIs};
-ghost use Rattle.deck.specs.Schema.{properBeginnings, declaredType, hasGroup, pathValid, groupRule, rowsMeet, beginsGroup, subElementRule};
-ghost use Rattle.schema_calls.specs.Calls.{groupsAbove, rowsAbove};
+ghost use Rattle.deck.specs.Schema.{properBeginnings, declaredType, hasGroup, pathValid, groupRule, subElementRule};
+ghost use Rattle.schema_calls.specs.Calls.{nameMatches, pathMatches, groupsAbove, rowsAbove, PathsClosed};
 use crate::calls::has_group;
+use crate::search::Sought;
+use crate::search::is_found;
 use deck::lines::RowCells;
 use tables::numbers::TypeNumber;
 use tables::path::Path;
 use tables::schema::group_count;
-use tables::schema::group_path;
-use tables::schema::group_type;
-use tables::schema::row_name;
-use tables::schema::row_path;
-use tables::schema::row_type;
 use tables::schema::type_count;
 use tables::schema::type_mode;
 
@@ -86,79 +84,27 @@ pub fn group_rule(schema: &[u64], above: usize, t: TypeNumber, p: Path) -> bool
     !has_group(schema, t, p, above)
 }
 
-// The row and row i have one type, and one name or a path that equals or begins the other.
-fn rows_meet(schema: &[u64], i: usize, c: RowCells) -> bool
-    requires { ⌜ GoodSchema (now schema) ⌝ }
-    requires { ⌜ i < length (schemaOf (now schema) .subElements) ⌝ }
-    ensures { λ r. ⌜ r ≡ rowsMeet (rowIs c) (getD (schemaOf (now (schema .entry)) .subElements) i noSubElement) ⌝ }
-{
-    let ty = row_type(schema, i);
-    let t = c.ty;
-    if ty.0 != t.0 {
-        return false;
-    }
-    let name = row_name(schema, i);
-    let n = c.name;
-    if name.0 == n.0 {
-        return true;
-    }
-    let q = row_path(schema, i);
-    let p = c.path;
-    if p.begins(q) {
-        return true;
-    }
-    q.begins(p)
-}
-
-fn rows_meet_any(schema: &[u64], above: usize, c: RowCells) -> bool
+// A row above this place is of the type and has the row's name or path.
+fn rows_meet(schema: &[u64], above: usize, c: RowCells) -> bool
     requires { ⌜ GoodSchema (now schema) ⌝ }
     requires { ⌜ above ≤ length (schemaOf (now schema) .subElements) ⌝ }
-    ensures { λ r. ⌜ r ≡ anyOf (rowsMeet (rowIs c)) (take above (schemaOf (now (schema .entry)) .subElements)) ⌝ }
+    ensures { λ r. ⌜ r ≡ anyOf (nameMatches (c .ty .0) (c .name .0)) (take above (schemaOf (now (schema .entry)) .subElements)) || anyOf (pathMatches (c .ty .0) (partsOf (c .path))) (take above (schemaOf (now (schema .entry)) .subElements)) ⌝ }
 {
-    let mut i: usize = 0;
-    while i < above {
-        if rows_meet(schema, i, c) {
-            return true;
-        }
-        i += 1;
-    }
-    false
-}
-
-// The row's path equals or begins group i's, of the same type.
-fn begins_group(schema: &[u64], i: usize, c: RowCells) -> bool
-    requires { ⌜ GoodSchema (now schema) ⌝ }
-    requires { ⌜ i < length (schemaOf (now schema) .groups) ⌝ }
-    ensures { λ r. ⌜ r ≡ beginsGroup (rowIs c) (getD (schemaOf (now (schema .entry)) .groups) i noGroup) ⌝ }
-{
-    let ty = group_type(schema, i);
     let t = c.ty;
-    if ty.0 != t.0 {
-        return false;
+    let name = c.name;
+    if is_found(schema, Sought::Name(t, name), above) {
+        return true;
     }
-    let q = group_path(schema, i);
-    let p = c.path;
-    p.begins(q)
+    let path = c.path;
+    is_found(schema, Sought::Path(t, path), above)
 }
 
-fn begins_group_any(schema: &[u64], c: RowCells) -> bool
-    requires { ⌜ GoodSchema (now schema) ⌝ }
-    ensures { λ r. ⌜ r ≡ anyOf (beginsGroup (rowIs c)) (schemaOf (now (schema .entry)) .groups) ⌝ }
-{
-    let count = group_count(schema);
-    let mut i: usize = 0;
-    while i < count {
-        if begins_group(schema, i, c) {
-            return true;
-        }
-        i += 1;
-    }
-    false
-}
-
+// No path above begins or is begun by the row's unless both are equal, or the row's is a group's: so equal ones are looked for.
 pub fn sub_element_rule(schema: &[u64], above: usize, c: RowCells) -> bool
     requires { ⌜ GoodSchema (now schema) ⌝ }
     requires { ⌜ above ≤ length (schemaOf (now schema) .subElements) ⌝ }
+    requires { ⌜ PathsClosed (rowsAbove (schemaOf (now schema)) above) ⌝ }
+    requires { ⌜ 0 < length (partsOf (c .path)) ⌝ }
     ensures { λ r. ⌜ r ≡ subElementRule (rowsAbove (schemaOf (now (schema .entry))) above) (rowIs c) ⌝ }
 {
     let groups = group_count(schema);
@@ -168,8 +114,8 @@ pub fn sub_element_rule(schema: &[u64], above: usize, c: RowCells) -> bool
     if !type_declared(schema, c.child) {
         return false;
     }
-    if rows_meet_any(schema, above, c) {
+    if rows_meet(schema, above, c) {
         return false;
     }
-    !begins_group_any(schema, c)
+    !has_group(schema, c.ty, c.path, groups)
 }

@@ -3,16 +3,17 @@
 use mathlib.Core.Bool.{Bool, true, false, not, _&&_}
 use mathlib.Core.List.{List, [], _∷_}
 use mathlib.Core.Option.{none, some}
-use Prim.Native.Nat.{ℕ, suc}
+use mathlib.Core.Path.{_≡_}
+use Prim.Native.Nat.{ℕ, suc, _<_}
 use lib.Dec.{eqb}
-use lib.ListN.{length}
+use lib.ListN.{length, getD}
 use Rattle.tables.specs.FileSets.{noSet, partOf}
 use Rattle.tables.specs.Lists.{anyOf, allOf}
 use Rattle.tables.specs.Records.{Element, FileSet, Group, SubElement, Schema, Tree, Item, child, text, Entry, import, restriction, extension, Model, Fixed, State, root, nameOf, typeOf, depthOf, setOf, addGroup, addSubElement}
 use Rattle.tables.specs.ElementsTable.{elementsOf}
 use Rattle.tables.specs.LogTable.{logOf}
 use Rattle.tables.specs.ModelTable.{modelOf}
-use Rattle.tables.specs.SchemaTable.{schemaOf}
+use Rattle.tables.specs.SchemaTable.{schemaOf, noSubElement}
 use Rattle.deck.specs.Schema.{groupRule, subElementRule, declaresFile, declaredFiles, rowOfName}
 use Rattle.table_test.specs.TablesTest.{tablesPass}
 
@@ -105,3 +106,16 @@ stateIn model log = record { model = modelOf model; log = logOf log }
 unfoldable pub lentTablesPass : List ℕ → List ℕ → List ℕ → List ℕ → List ℕ → Bool
 lentTablesPass deck schema elements model log =
     tablesPass (length deck) schema elements model log && stateValid (fixedIn deck schema elements) (stateIn model log)
+
+-- ---- what the schema rules are asked of
+
+-- an S row's path is not empty, which a table's own test asks
+abbrev pub PathFilled : SubElement → Type 0
+PathFilled r = 0 < length (r .path)
+
+-- the row at a place, if there is one, is what its name has in its type
+abbrev pub FoundRow : Schema → ℕ → Type 0
+FoundRow sc i =
+    i < length (sc .subElements)
+    → let r = getD (sc .subElements) i noSubElement in
+    rowOfName sc (r .type) (r .name) ≡ some r

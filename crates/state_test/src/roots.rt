@@ -12,7 +12,12 @@ use tables::model::count;
 use tables::model::item_at;
 use tables::model::list_length;
 use tables::numbers::Element;
+use tables::numbers::Name;
+use tables::numbers::TypeNumber;
 use tables::schema::row_child;
+use tables::schema::row_count;
+use tables::schema::row_name;
+use tables::schema::row_type;
 ghost use mathlib.Core.List.{List};
 ghost use mathlib.Core.Path.{_≡_};
 ghost use Prim.Native.Nat.{ℕ, _<_};
@@ -21,8 +26,10 @@ ghost use Rattle.tables.specs.Lists.{allOf};
 ghost use Rattle.tables.specs.Records.{child, listOf};
 ghost use Rattle.tables.specs.ElementsTable.{elementsOf, GoodElements};
 ghost use Rattle.tables.specs.ModelTable.{itemIs, countOf, modelOf, ItemBelow, GoodModel};
-ghost use Rattle.tables.specs.SchemaTable.{GoodSchema};
-ghost use Rattle.state_test.specs.StateTest.{rootValid, rootsValid, itemTyped, listsTyped, fixedIn};
+ghost use Rattle.tables.specs.SchemaTable.{schemaOf, GoodSchema, noSubElement};
+ghost use Rattle.deck.specs.Schema.{rowOfName};
+ghost use Rattle.schema_calls.specs.Calls.{Finds};
+ghost use Rattle.state_test.specs.StateTest.{rootValid, rootsValid, itemTyped, listsTyped, fixedIn, FoundRow};
 
 fn root_valid(elements: &[u64], e: Element) -> bool
     requires { ⌜ GoodElements (now elements) ⌝ }
@@ -58,56 +65,99 @@ pub fn roots_valid(elements: &[u64]) -> bool
     true
 }
 
-// A listed element has the type that the row of its name in p's type gives.
-fn item_typed(schema: &[u64], elements: &[u64], p: Element, a: Item) -> bool
-    requires { ⌜ GoodSchema (now schema) ⌝ }
-    requires { ⌜ GoodElements (now elements) ⌝ }
-    requires { ⌜ p .0 < length (elementsOf (now elements) .names) ⌝ }
-    requires { ⌜ ItemBelow (length (elementsOf (now elements) .names)) (itemIs a) ⌝ }
-    ensures { λ r. ⌜ ((deck : List ℕ) → r ≡ itemTyped (fixedIn deck (now (schema .entry)) (now (elements .entry))) (p .0) (itemIs a)) ⌝ }
-{
-    match a {
-        Item::Child(e) => child_typed(schema, elements, p, e),
-        Item::Text(_) => true,
-    }
+// Whether what was asked is typed, and the row found last.
+pub struct Typed {
+    pub all: bool,
+    pub row: usize,
 }
 
-fn child_typed(schema: &[u64], elements: &[u64], p: Element, e: Element) -> bool
+// The row of the name in the type: the one at this place, if it is that, else the one that a search finds.
+fn row_again(schema: &[u64], t: TypeNumber, n: Name, row: usize) -> Found
+    requires { ⌜ GoodSchema (now schema) ⌝ }
+    requires { ⌜ FoundRow (schemaOf (now schema)) row ⌝ }
+    ensures { λ r. ⌜ Finds noSubElement (schemaOf (now (schema .entry)) .subElements) r (rowOfName (schemaOf (now (schema .entry))) (t .0) (n .0)) ⌝ }
+{
+    let count = row_count(schema);
+    if count <= row {
+        return row_of_name(schema, t, n);
+    }
+    let ty = row_type(schema, row);
+    if ty.0 != t.0 {
+        return row_of_name(schema, t, n);
+    }
+    let name = row_name(schema, row);
+    if name.0 != n.0 {
+        return row_of_name(schema, t, n);
+    }
+    Found::At(row)
+}
+
+// A listed element has the type that the row of its name in p's type gives.
+fn child_typed(schema: &[u64], elements: &[u64], p: Element, e: Element, row: usize) -> Typed
     requires { ⌜ GoodSchema (now schema) ⌝ }
     requires { ⌜ GoodElements (now elements) ⌝ }
     requires { ⌜ p .0 < length (elementsOf (now elements) .names) ⌝ }
     requires { ⌜ e .0 < length (elementsOf (now elements) .names) ⌝ }
-    ensures { λ r. ⌜ ((deck : List ℕ) → r ≡ itemTyped (fixedIn deck (now (schema .entry)) (now (elements .entry))) (p .0) (child (e .0))) ⌝ }
+    requires { ⌜ FoundRow (schemaOf (now schema)) row ⌝ }
+    ensures { λ r. ⌜ ((deck : List ℕ) → r .all ≡ itemTyped (fixedIn deck (now (schema .entry)) (now (elements .entry))) (p .0) (child (e .0))) ⌝ }
+    ensures { λ r. ⌜ FoundRow (schemaOf (now (schema .entry))) (r .row) ⌝ }
 {
     let t = element_type(elements, p);
     let n = element_name(elements, e);
-    let Found::At(i) = row_of_name(schema, t, n) else {
-        return false;
+    let Found::At(i) = row_again(schema, t, n, row) else {
+        return Typed { all: false, row };
     };
     let c = row_child(schema, i);
     let u = element_type(elements, e);
-    c.0 == u.0
+    let all = c.0 == u.0;
+    Typed { all, row: i }
+}
+
+fn item_typed(schema: &[u64], elements: &[u64], p: Element, a: Item, row: usize) -> Typed
+    requires { ⌜ GoodSchema (now schema) ⌝ }
+    requires { ⌜ GoodElements (now elements) ⌝ }
+    requires { ⌜ p .0 < length (elementsOf (now elements) .names) ⌝ }
+    requires { ⌜ ItemBelow (length (elementsOf (now elements) .names)) (itemIs a) ⌝ }
+    requires { ⌜ FoundRow (schemaOf (now schema)) row ⌝ }
+    ensures { λ r. ⌜ ((deck : List ℕ) → r .all ≡ itemTyped (fixedIn deck (now (schema .entry)) (now (elements .entry))) (p .0) (itemIs a)) ⌝ }
+    ensures { λ r. ⌜ FoundRow (schemaOf (now (schema .entry))) (r .row) ⌝ }
+{
+    match a {
+        Item::Child(e) => child_typed(schema, elements, p, e, row),
+        Item::Text(_) => Typed { all: true, row },
+    }
 }
 
 // The list of p.
-fn list_typed(schema: &[u64], elements: &[u64], model: &[u64], p: usize) -> bool
+fn list_typed(schema: &[u64], elements: &[u64], model: &[u64], p: usize, row: usize) -> Typed
     requires { ⌜ GoodSchema (now schema) ⌝ }
     requires { ⌜ GoodElements (now elements) ⌝ }
     requires { ⌜ GoodModel (now model) ⌝ }
     requires { ⌜ countOf (modelOf (now model)) ≡ length (elementsOf (now elements) .names) ⌝ }
     requires { ⌜ p < countOf (modelOf (now model)) ⌝ }
-    ensures { λ r. ⌜ ((deck : List ℕ) → r ≡ allOf (itemTyped (fixedIn deck (now (schema .entry)) (now (elements .entry))) p) (listOf (modelOf (now (model .entry))) p)) ⌝ }
+    requires { ⌜ FoundRow (schemaOf (now schema)) row ⌝ }
+    ensures { λ r. ⌜ ((deck : List ℕ) → r .all ≡ allOf (itemTyped (fixedIn deck (now (schema .entry)) (now (elements .entry))) p) (listOf (modelOf (now (model .entry))) p)) ⌝ }
+    ensures { λ r. ⌜ FoundRow (schemaOf (now (schema .entry))) (r .row) ⌝ }
 {
     let n = list_length(model, Element(p));
+    let mut last = row;
     let mut i = 0;
     while i < n {
         let a = item_at(model, Element(p), i);
-        if !item_typed(schema, elements, Element(p), a) {
-            return false;
+        let r = item_typed(schema, elements, Element(p), a, last);
+        last = r.row;
+        if !r.all {
+            return Typed {
+                all: false,
+                row: last,
+            };
         }
         i += 1;
     }
-    true
+    Typed {
+        all: true,
+        row: last,
+    }
 }
 
 pub fn lists_typed(schema: &[u64], elements: &[u64], model: &[u64]) -> bool
@@ -118,11 +168,14 @@ pub fn lists_typed(schema: &[u64], elements: &[u64], model: &[u64]) -> bool
     ensures { λ r. ⌜ ((deck : List ℕ) → r ≡ listsTyped (fixedIn deck (now (schema .entry)) (now (elements .entry))) 0 (modelOf (now (model .entry)) .lists)) ⌝ }
 {
     let n = count(model);
+    let mut last = row_count(schema);
     let mut p = 0;
     while p < n {
-        if !list_typed(schema, elements, model, p) {
+        let r = list_typed(schema, elements, model, p, last);
+        if !r.all {
             return false;
         }
+        last = r.row;
         p += 1;
     }
     true

@@ -12,12 +12,14 @@ use tables::schema::row_mult;
 use tables::schema::row_name;
 use tables::schema::row_path;
 use tables::schema::row_type;
+ghost use mathlib.Core.Bool.{true};
 ghost use mathlib.Core.Path.{_≡_};
 ghost use Prim.Native.Nat.{_<_};
 ghost use lib.ListN.{length, getD};
+ghost use Rattle.tables.specs.Cells.{Each};
 ghost use Rattle.tables.specs.SchemaTable.{schemaOf, GoodSchema, noSubElement};
 ghost use Rattle.deck.specs.Answers.{rowIs};
-ghost use Rattle.state_test.specs.StateTest.{groupsValid, rowsValid, schemaValid, typesAlone, withoutRows};
+ghost use Rattle.state_test.specs.StateTest.{groupsValid, rowsValid, schemaValid, typesAlone, withoutRows, PathFilled};
 
 fn groups_valid(schema: &[u64]) -> bool
     requires { ⌜ GoodSchema (now schema) ⌝ }
@@ -52,6 +54,8 @@ fn row_cells(schema: &[u64], i: usize) -> RowCells
 
 fn rows_valid(schema: &[u64]) -> bool
     requires { ⌜ GoodSchema (now schema) ⌝ }
+    requires { ⌜ Each PathFilled (schemaOf (now schema) .subElements) ⌝ }
+    requires { ⌜ groupsValid (typesAlone (schemaOf (now schema))) (schemaOf (now schema) .groups) ≡ true ⌝ }
     ensures { λ r. ⌜ r ≡ rowsValid (withoutRows (schemaOf (now (schema .entry)))) (schemaOf (now (schema .entry)) .subElements) ⌝ }
 {
     let n = row_count(schema);
@@ -67,6 +71,7 @@ fn rows_valid(schema: &[u64]) -> bool
 
 pub fn schema_valid(schema: &[u64]) -> bool
     requires { ⌜ GoodSchema (now schema) ⌝ }
+    requires { ⌜ Each PathFilled (schemaOf (now schema) .subElements) ⌝ }
     ensures { λ r. ⌜ r ≡ schemaValid (schemaOf (now (schema .entry))) ⌝ }
 {
     if !groups_valid(schema) {

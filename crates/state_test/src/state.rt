@@ -15,11 +15,12 @@ ghost use Rattle.tables.specs.ElementsTable.{elementsOf, GoodElements};
 ghost use Rattle.tables.specs.LogTable.{GoodLog};
 ghost use Rattle.tables.specs.ModelTable.{countOf, modelOf, GoodModel};
 ghost use Rattle.tables.specs.SchemaTable.{schemaOf, GoodSchema};
-ghost use Rattle.state_test.specs.StateTest.{stateValid, lentTablesPass, fixedIn, stateIn};
+ghost use Rattle.state_test.specs.StateTest.{PathFilled, stateValid, lentTablesPass, fixedIn, stateIn};
 
 // The state held by tables that pass their own test.
 fn state_valid(schema: &[u64], elements: &[u64], model: &[u64], log: &[u64]) -> bool
     requires { ⌜ GoodSchema (now schema) ⌝ }
+    requires { ⌜ Each PathFilled (schemaOf (now schema) .subElements) ⌝ }
     requires { ⌜ Each (λ (d : File). d .file < fileLimit) (schemaOf (now schema) .files) ⌝ }
     requires { ⌜ GoodElements (now elements) ⌝ }
     requires { ⌜ Each (λ (t : Tree). t .file < fileLimit) (elementsOf (now elements) .trees) ⌝ }

@@ -4,6 +4,7 @@ pub mod RowsTest
 pub mod AreaTest
 pub mod LogTest
 pub mod ElementsTest
+pub mod IndexTest
 pub mod SchemaTest
 pub mod TablesTest
 pub mod PassingRows

@@ -134,7 +134,7 @@ fn used(t: &[u64], texts: u64) -> bool
     cells_in_range(&t[model::ITEMS_AT..b], n, texts)
 }
 
-// No element twice in its list.
+// No element twice in its list; a list of fewer than two items has none.
 fn lists_once(t: &[u64]) -> bool
     requires { ⌜ GoodModel (now t) ⌝ }
     ensures { λ r. ⌜ r ≡ modelOnce (modelOf (now (t .entry))) ⌝ }
@@ -145,7 +145,12 @@ fn lists_once(t: &[u64]) -> bool
     while e < n {
         let i = model::STARTS_AT + e;
         let a = model::ITEMS_AT + t[i] as usize;
-        let b = a + model::list_length(t, Element(e));
+        let size = model::list_length(t, Element(e));
+        if size < 2 {
+            e += 1;
+            continue;
+        }
+        let b = a + size;
         if !once(&t[a..b], &mut marks, e as u64 + 1) {
             return false;
         }

@@ -1,6 +1,8 @@
 // The test of a schema table.
 
 use crate::area_test::Area;
+use crate::index_test::index_passes;
+use tables::index::Index;
 use tables::limits::FILE_LIMIT;
 use tables::limits::MASK_LIMIT;
 use tables::limits::NAME_LIMIT;
@@ -14,7 +16,7 @@ ghost use lib.ListN.{length};
 ghost use Rattle.tables.specs.SchemaTable.{typeWidth, groupWidth, rowWidth, fileWidth};
 ghost use Rattle.table_test.specs.RowTests.{every, pathPasses, typeTests, groupTests, subElementTests, fileTests};
 ghost use Rattle.table_test.specs.AreaTest.{rowsIn};
-ghost use Rattle.table_test.specs.SchemaTest.{filesAscend, isSchemaTable};
+ghost use Rattle.table_test.specs.SchemaTest.{filesAscend, indexTests, Counted, isSchemaTable};
 
 // The largest part of a path, as its cell has it.
 const PART_CELL: u64 = PART_LIMIT + 1;
@@ -84,6 +86,14 @@ fn files_ascend(area: &[u64], count: usize) -> bool
     true
 }
 
+// Each index is that of its rows.
+fn indexes_pass(t: &[u64]) -> bool
+    requires { ⌜ Counted (now t) ⌝ }
+    ensures { λ r. ⌜ r ≡ every (indexTests (now (t .entry))) ⌝ }
+{
+    index_passes(t, Index::Groups) & index_passes(t, Index::Names) & index_passes(t, Index::Paths)
+}
+
 pub fn is_schema_table(t: &[u64]) -> bool
     ensures { λ r. ⌜ r ≡ isSchemaTable (now (t .entry)) ⌝ }
 {
@@ -91,11 +101,16 @@ pub fn is_schema_table(t: &[u64]) -> bool
         return false;
     }
     let files = t[3];
-    if !Area::Files.passes(&t[schema::FILES_AT..schema::SCHEMA_SIZE], files) {
+    if !Area::Files.passes(&t[schema::FILES_AT..schema::GROUP_INDEX_AT], files) {
+        return false;
+    }
+    if !Area::Groups.passes(&t[schema::GROUPS_AT..schema::ROWS_AT], t[1]) {
+        return false;
+    }
+    if !Area::SubElements.passes(&t[schema::ROWS_AT..schema::FILES_AT], t[2]) {
         return false;
     }
     Area::Types.passes(&t[schema::TYPES_AT..schema::GROUPS_AT], t[0])
-        & Area::Groups.passes(&t[schema::GROUPS_AT..schema::ROWS_AT], t[1])
-        & Area::SubElements.passes(&t[schema::ROWS_AT..schema::FILES_AT], t[2])
-        & files_ascend(&t[schema::FILES_AT..schema::SCHEMA_SIZE], files as usize)
+        & files_ascend(&t[schema::FILES_AT..schema::GROUP_INDEX_AT], files as usize)
+        & indexes_pass(t)
 }

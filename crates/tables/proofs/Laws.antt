@@ -11,4 +11,5 @@ pub mod Paths
 pub mod Texts
 pub mod LogTable
 pub mod ElementsTable
+pub mod Index
 pub mod SchemaTable

@@ -11,4 +11,5 @@ pub mod Cells
 pub mod ModelTable
 pub mod LogTable
 pub mod ElementsTable
+pub mod Index
 pub mod SchemaTable

@@ -4,6 +4,7 @@ use mathlib.Core.List.{List, [], _∷_}
 use mathlib.Core.Option.{Option, none, some}
 use Prim.Native.Nat.{ℕ, zero, suc, _+_}
 use lib.Dec.{eqb}
+use lib.ListN.{drop}
 
 module _ {ℓ} {A : Type ℓ} where
   -- some entry passes the test
@@ -32,6 +33,12 @@ module _ {ℓ} {A : Type ℓ} where
   removeAt [] i = []
   removeAt (x ∷ xs) zero = xs
   removeAt (x ∷ xs) (suc i) = x ∷ removeAt xs i
+
+  -- the list without k entries, the first of them at a place
+  unfoldable pub removeRun : List A → ℕ → ℕ → List A
+  removeRun xs zero k = drop k xs
+  removeRun [] (suc i) k = []
+  removeRun (x ∷ xs) (suc i) k = x ∷ removeRun xs i k
 
   -- the entries that pass the test
   unfoldable pub keep : (A → Bool) → List A → List A

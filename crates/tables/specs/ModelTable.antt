@@ -6,9 +6,10 @@ use mathlib.Core.Option.{Option, none, some}
 use mathlib.Core.Path.{_≡_}
 use Prim.Native.Nat.{ℕ, zero, suc, _+_, _-_, _*_, _≤_, _<_}
 use lib.Dec.{ltb}
-use lib.ListN.{length, getD, take, drop}
+use lib.ListN.{length, getD, take, drop, replicate}
 use Rattle.tables.specs.Cells.{padded, cells, rowsOf, Each}
 use Rattle.tables.specs.Limits.{elementLimit, itemLimit}
+use Rattle.tables.specs.Lists.{removeRun}
 use Rattle.tables.specs.Records.{Item, child, text, Model, contentItems, listOf}
 use Rattle.tables.specs.SetCells.{setWidth, setCells, cellsSet}
 use Rattle.tables.specs.declared.model.Parent.{Parent}
@@ -148,11 +149,9 @@ shiftIn [] i v = []
 shiftIn (x ∷ xs) zero v = v ∷ shiftIn xs zero x
 shiftIn (x ∷ xs) (suc i) v = x ∷ shiftIn xs i v
 
--- without the entry at a place, what stands behind it moved down by one, and a zero at the end
-unfoldable pub shiftOut : List ℕ → ℕ → List ℕ
-shiftOut [] i = []
-shiftOut (x ∷ xs) zero = xs ++ (0 ∷ [])
-shiftOut (x ∷ xs) (suc i) = x ∷ shiftOut xs i
+-- without the k entries at a place, what stands behind them moved down by k, and zeros at the end
+unfoldable pub shiftOut : List ℕ → ℕ → ℕ → List ℕ
+shiftOut xs i k = removeRun xs i k ++ replicate k 0
 
 -- f of each entry from a place on
 unfoldable pub onFrom : (ℕ → ℕ) → List ℕ → ℕ → List ℕ

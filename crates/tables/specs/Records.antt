@@ -5,7 +5,7 @@ use mathlib.Core.Option.{Option, none}
 use mathlib.Core.Bool.{Bool, false}
 use Prim.Native.Nat.{ℕ}
 use lib.ListN.{length, getD, set}
-use Rattle.tables.specs.Lists.{sum, insertAt, removeAt}
+use Rattle.tables.specs.Lists.{sum, insertAt, removeAt, removeRun}
 
 abbrev pub Element : Type 0
 Element = ℕ
@@ -224,6 +224,10 @@ insertItem m e i a = putList m e (insertAt (listOf m e) i a)
 -- the element's list without the item at this place
 unfoldable pub removeItem : Model → Element → ℕ → Model
 removeItem m e i = putList m e (removeAt (listOf m e) i)
+
+-- the element's list without k items, the first of them at this place
+unfoldable pub removeItems : Model → Element → ℕ → ℕ → Model
+removeItems m e i k = putList m e (removeRun (listOf m e) i k)
 
 -- content items over all lists
 unfoldable pub contentItems : Model → ℕ

@@ -1,5 +1,6 @@
 -- The schema's table: the counts of types, groups, rows and files; each type's mode, named and split; each group's type, path and mode; each
--- row's type, path, name, child type, mult and mask; each file's number and version. Unused cells are zero. Assumes nothing.
+-- row's type, path, name, child type, mult and mask; each file's number and version; the indexes of groups by path, rows by name, rows by
+-- path. Unused cells are zero. Assumes nothing.
 use mathlib.Core.Bool.{Bool, true, false, not}
 use mathlib.Core.Path.{_≡_}
 use mathlib.Core.List.{List, [], _∷_, _++_}
@@ -7,9 +8,12 @@ use Prim.Native.Nat.{ℕ, _+_, _*_, _≤_}
 use lib.Dec.{eqb}
 use lib.ListN.{length, getD, drop}
 use Rattle.tables.specs.Cells.{cells, rowsOf, Each}
+use Rattle.tables.specs.Index.{bucket, pathBucket, indexSize, indexCells}
 use Rattle.tables.specs.Limits.{typeLimit, groupLimit, rowLimit, fileLimit, pathLimit}
 use Rattle.tables.specs.Paths.{front, pathCells}
 use Rattle.tables.specs.Records.{SchemaPath, Mode, sequence, choice, bag, mixed, characters, modes, Mult, atMostOne, one, any, mults, TypeRow, Group, SubElement, File, Schema}
+use Rattle.tables.specs.declared.index.Index.{Index}
+use Rattle.tables.specs.declared.index.Index.the-variants.{Groups, Names, Paths}
 
 -- ---- sizes, and where the areas begin
 
@@ -51,8 +55,17 @@ rowsAt = groupsAt + groupsArea
 abbrev pub filesAt : ℕ
 filesAt = rowsAt + rowsArea
 
+abbrev pub groupIndexAt : ℕ
+groupIndexAt = filesAt + filesArea
+
+abbrev pub nameIndexAt : ℕ
+nameIndexAt = groupIndexAt + indexSize
+
+abbrev pub pathIndexAt : ℕ
+pathIndexAt = nameIndexAt + indexSize
+
 abbrev pub schemaSize : ℕ
-schemaSize = filesAt + filesArea
+schemaSize = pathIndexAt + indexSize
 
 -- ---- numbers of modes and mults
 
@@ -136,6 +149,37 @@ noSubElement = record { type = 0; path = []; name = 0; childType = 0; mult = any
 abbrev pub noFile : File
 noFile = record { file = 0; version = 0 }
 
+-- ---- indexes
+
+abbrev pub indexAt : Index → ℕ
+indexAt Groups = groupIndexAt
+indexAt Names = nameIndexAt
+indexAt Paths = pathIndexAt
+
+-- how many groups or rows are in an index
+abbrev pub placesIn : Schema → Index → ℕ
+placesIn sc Groups = length (sc .groups)
+placesIn sc Names = length (sc .subElements)
+placesIn sc Paths = length (sc .subElements)
+
+abbrev pub groupKey : Group → ℕ
+groupKey g = pathBucket (g .type) (g .path)
+
+abbrev pub nameKey : SubElement → ℕ
+nameKey r = bucket (r .type) (r .name)
+
+abbrev pub pathKey : SubElement → ℕ
+pathKey r = pathBucket (r .type) (r .path)
+
+-- the bucket of the group or row at a place
+abbrev pub keyIn : Schema → Index → ℕ → ℕ
+keyIn sc Groups i = groupKey (getD (sc .groups) i noGroup)
+keyIn sc Names i = nameKey (getD (sc .subElements) i noSubElement)
+keyIn sc Paths i = pathKey (getD (sc .subElements) i noSubElement)
+
+abbrev pub indexOf : Schema → Index → List ℕ
+indexOf sc x = indexCells (keyIn sc x) (placesIn sc x)
+
 -- ---- the table
 
 unfoldable pub encodeSchema : Schema → List ℕ
@@ -143,7 +187,8 @@ encodeSchema sc =
     length (sc .types) ∷ length (sc .groups) ∷ length (sc .subElements) ∷ length (sc .files)
     ∷ (cells typeWidth typeLimit typeCells (sc .types)
     ++ (cells groupWidth groupLimit groupCells (sc .groups)
-    ++ (cells rowWidth rowLimit subElementCells (sc .subElements) ++ cells fileWidth fileLimit fileCells (sc .files))))
+    ++ (cells rowWidth rowLimit subElementCells (sc .subElements)
+    ++ (cells fileWidth fileLimit fileCells (sc .files) ++ (indexOf sc Groups ++ (indexOf sc Names ++ indexOf sc Paths))))))
 
 unfoldable pub schemaOf : List ℕ → Schema
 schemaOf xs =

@@ -2,6 +2,7 @@
 pub mod cells;
 pub mod elements;
 pub mod file_set;
+pub mod index;
 pub mod limits;
 pub mod log;
 pub mod model;

@@ -12,7 +12,7 @@ ghost use mathlib.Core.Path.{_≡_};
 ghost use Prim.Native.Nat.{ℕ, _+_, _-_, _≤_, _<_};
 ghost use lib.ListN.{length, getD, replicate};
 ghost use Rattle.tables.specs.Limits.{elementLimit, itemLimit};
-ghost use Rattle.tables.specs.Records.{Model, child, parentOf, setOf, listOf, contentItems, putParent, putSet, insertItem, removeItem, addToModel};
+ghost use Rattle.tables.specs.Records.{Model, child, parentOf, setOf, listOf, contentItems, putParent, putSet, insertItem, removeItems, addToModel};
 ghost use Rattle.tables.specs.SetCells.{setIs};
 ghost use Rattle.tables.specs.ModelTable.{parentIs, itemIs, parentCell, cellParent, itemCell, cellItem, countOf, modelOf, ParentBelow, ItemBelow, GoodModel, HoldsModel, StartOf, shiftIn, shiftOut, onFrom};
 
@@ -89,31 +89,59 @@ fn item_cell(a: Item) -> u64
 
 // Changes of a part in place.
 
-// The value at a place, what stands from there on moved up by one; the last falls out.
-fn shift_in(s: &mut [u64], i: usize, v: u64)
-    ensures { λ _. ⌜ now (s .exit) ≡ shiftIn (now (s .entry)) i v ⌝ }
+// The value in front, all moved up by one; the last falls out. The loop over the whole slice compiles to one move.
+fn put_first(s: &mut [u64], v: u64)
+    requires { ⌜ 0 < length (now s) ⌝ }
+    ensures { λ _. ⌜ now (s .exit) ≡ shiftIn (now (s .entry)) 0 v ⌝ }
 {
-    let mut j = i;
-    let mut carry = v;
-    while j < s.len() {
-        let x = s[j];
-        s[j] = carry;
-        carry = x;
-        j += 1;
+    let mut j = s.len() - 1;
+    while 0 < j {
+        s[j] = s[j - 1];
+        j -= 1;
     }
+    s[0] = v;
 }
 
-// Without the entry at a place, what stands behind it moved down by one, and a zero at the end.
-fn shift_out(s: &mut [u64], i: usize)
+// The value at a place, what stands from there on moved up by one; the last falls out.
+fn shift_in(s: &mut [u64], i: usize, v: u64)
     requires { ⌜ i < length (now s) ⌝ }
-    ensures { λ _. ⌜ now (s .exit) ≡ shiftOut (now (s .entry)) i ⌝ }
+    ensures { λ _. ⌜ now (s .exit) ≡ shiftIn (now (s .entry)) i v ⌝ }
 {
-    let mut j = i;
-    while j < s.len() - 1 {
-        s[j] = s[j + 1];
+    put_first(&mut s[i..], v);
+}
+
+// Without the first k, the others moved down by k, and zeros at the end.
+fn move_down(s: &mut [u64], k: usize)
+    requires { ⌜ k ≤ length (now s) ⌝ }
+    ensures { λ _. ⌜ now (s .exit) ≡ shiftOut (now (s .entry)) 0 k ⌝ }
+{
+    let n = s.len() - k;
+    let mut j: usize = 0;
+    while j < n {
+        s[j] = s[j + k];
         j += 1;
     }
-    s[j] = 0;
+    clear(&mut s[n..]);
+}
+
+// The same; by one the loop compiles to one move.
+fn drop_front(s: &mut [u64], k: usize)
+    requires { ⌜ k ≤ length (now s) ⌝ }
+    ensures { λ _. ⌜ now (s .exit) ≡ shiftOut (now (s .entry)) 0 k ⌝ }
+{
+    if k == 1 {
+        move_down(s, 1);
+        return;
+    }
+    move_down(s, k);
+}
+
+// Without the k entries at a place, what stands behind them moved down by k, and zeros at the end.
+fn shift_out(s: &mut [u64], i: usize, k: usize)
+    requires { ⌜ i + k ≤ length (now s) ⌝ }
+    ensures { λ _. ⌜ now (s .exit) ≡ shiftOut (now (s .entry)) i k ⌝ }
+{
+    drop_front(&mut s[i..], k);
 }
 
 // Each entry from a place on, and one more.
@@ -128,14 +156,14 @@ fn raise_from(s: &mut [u64], i: usize)
     }
 }
 
-// Each entry from a place on, and one less.
-fn lower_from(s: &mut [u64], i: usize)
-    requires { ⌜ ((k : ℕ) → i ≤ k → k < length (now s) → 0 < getD (now s) k 0) ⌝ }
-    ensures { λ _. ⌜ now (s .exit) ≡ onFrom (λ (x : ℕ). x - 1) (now (s .entry)) i ⌝ }
+// Each entry from a place on, and k less.
+fn lower_from(s: &mut [u64], i: usize, k: u64)
+    requires { ⌜ ((j : ℕ) → i ≤ j → j < length (now s) → k ≤ getD (now s) j 0) ⌝ }
+    ensures { λ _. ⌜ now (s .exit) ≡ onFrom (λ (x : ℕ). x - k) (now (s .entry)) i ⌝ }
 {
     let mut j = i;
     while j < s.len() {
-        s[j] = s[j] - 1;
+        s[j] = s[j] - k;
         j += 1;
     }
 }
@@ -256,21 +284,21 @@ pub fn insert_item(model: &mut [u64], e: Element, i: usize, a: Item)
     raise_from(&mut model[STARTS_AT..last], later);
 }
 
-// The element's list without the item at this place.
-pub fn remove_item(model: &mut [u64], e: Element, i: usize)
+// The element's list without k items, the first of them at this place.
+pub fn remove_items(model: &mut [u64], e: Element, i: usize, k: usize)
     requires { ⌜ GoodModel (now model) ⌝ }
     requires { ⌜ e .0 < countOf (modelOf (now model)) ⌝ }
-    requires { ⌜ i < length (listOf (modelOf (now model)) (e .0)) ⌝ }
-    ensures { λ _. ⌜ HoldsModel (now (model .exit)) (removeItem (modelOf (now (model .entry))) (e .0) i) ⌝ }
+    requires { ⌜ i + k ≤ length (listOf (modelOf (now model)) (e .0)) ⌝ }
+    ensures { λ _. ⌜ HoldsModel (now (model .exit)) (removeItems (modelOf (now (model .entry))) (e .0) i k) ⌝ }
 {
     let n = count(model);
     let total = item_total(model);
     let at = start_of(model, e) + i;
     let end = ITEMS_AT + total;
-    shift_out(&mut model[ITEMS_AT..end], at);
+    shift_out(&mut model[ITEMS_AT..end], at, k);
     let last = STARTS_AT + n + 1;
     let next = e.0 + 1;
-    lower_from(&mut model[STARTS_AT..last], next);
+    lower_from(&mut model[STARTS_AT..last], next, k as u64);
 }
 
 // One more element, with an empty list.

@@ -4,7 +4,7 @@ use crate::limits::PATH_LIMIT;
 ghost use mathlib.Core.Path.{_≡_};
 ghost use mathlib.Core.List.{dropLast};
 ghost use lib.ListN.{getD};
-ghost use Rattle.tables.specs.Paths.{begins, pathOrder, samePath, sharedBeginning, cellsOf, partsOf, orderOf, sharesPart};
+ghost use Rattle.tables.specs.Paths.{pathOrder, samePath, sharedBeginning, cellsOf, partsOf, orderOf, sharesPart};
 
 pub struct Path(pub u64, pub u64, pub u64, pub u64);
 
@@ -59,25 +59,6 @@ impl Path {
             Order::Equal => true,
             Order::Greater => false,
         }
-    }
-
-    // This path equals or begins the other.
-    pub fn begins(self, q: Path) -> bool
-        ensures { λ r. ⌜ r ≡ begins (partsOf self) (partsOf q) ⌝ }
-    {
-        let mut i = 0;
-        while i < PATH_LIMIT {
-            let x = self.part(i);
-            let y = q.part(i);
-            if x == 0 {
-                return true;
-            }
-            if x != y {
-                return false;
-            }
-            i += 1;
-        }
-        true
     }
 
     // The longest beginning that both share, last parts not counted.

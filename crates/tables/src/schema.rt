@@ -1,10 +1,15 @@
 // The schema table: the counts of types, groups, rows and files; each type's mode, named and split; each group's type, path and mode; each
-// row's type, path, name, child type, mult and mask; each file's number and version; zeros. A path is four cells, part + 1, 0 for none.
+// row's type, path, name, child type, mult and mask; each file's number and version; the indexes of groups by path, rows by name, rows by
+// path; zeros. A path is four cells, part + 1, 0 for none.
 
 use crate::cells::put2;
 use crate::cells::put3;
 use crate::cells::put6;
 use crate::cells::put9;
+use crate::index::INDEX_SIZE;
+use crate::index::bucket;
+use crate::index::link;
+use crate::index::path_bucket;
 use crate::limits::FILE_LIMIT;
 use crate::limits::GROUP_LIMIT;
 use crate::limits::ROW_LIMIT;
@@ -39,7 +44,13 @@ pub const ROWS_AT: usize = GROUPS_AT + GROUP_LIMIT * GROUP_WIDTH;
 
 pub const FILES_AT: usize = ROWS_AT + ROW_LIMIT * ROW_WIDTH;
 
-pub const SCHEMA_SIZE: usize = FILES_AT + FILE_LIMIT as usize * FILE_WIDTH;
+pub const GROUP_INDEX_AT: usize = FILES_AT + FILE_LIMIT as usize * FILE_WIDTH;
+
+pub const NAME_INDEX_AT: usize = GROUP_INDEX_AT + INDEX_SIZE;
+
+pub const PATH_INDEX_AT: usize = NAME_INDEX_AT + INDEX_SIZE;
+
+pub const SCHEMA_SIZE: usize = PATH_INDEX_AT + INDEX_SIZE;
 
 pub fn type_count(schema: &[u64]) -> usize
     requires { ⌜ GoodSchema (now schema) ⌝ }
@@ -287,6 +298,7 @@ pub fn add_group(schema: &mut [u64], t: TypeNumber, p: Path, mode: u64)
         mode,
     );
     schema[1] = m as u64 + 1;
+    link(schema, GROUP_INDEX_AT, m, path_bucket(t.0, p));
 }
 
 pub fn add_row(
@@ -319,6 +331,8 @@ pub fn add_row(
         mask,
     );
     schema[2] = m as u64 + 1;
+    link(schema, NAME_INDEX_AT, m, bucket(t.0, n.0 as usize));
+    link(schema, PATH_INDEX_AT, m, path_bucket(t.0, p));
 }
 
 pub fn add_file(schema: &mut [u64], f: FileNumber, version: u64)

@@ -43,16 +43,6 @@ fn orders(p: Path, q: Path, r: Path, e: Path) {
     end();
 }
 
-fn begins(p: Path, q: Path, r: Path, e: Path) {
-    word(b"begins");
-    truth(q.begins(p));
-    truth(p.begins(q));
-    truth(e.begins(e));
-    truth(p.begins(p));
-    truth(p.begins(r));
-    end();
-}
-
 fn same(p: Path, r: Path) {
     word(b"same");
     truth(p.same(p));
@@ -76,7 +66,6 @@ pub fn run() {
     let e = Path(0, 0, 0, 0);
     parts(r);
     orders(p, q, r, e);
-    begins(p, q, r, e);
     same(p, r);
     shared(p, q, r, e);
 }

@@ -1,22 +1,21 @@
--- The search for an element's first place, and what leaves a list. Assumes nothing.
+-- The search for an element's first place, from the front and from the back. Assumes nothing.
 use mathlib.Core.Bool.{Bool, true, false, false≢true}
 use mathlib.Core.List.{List, [], _∷_}
 use mathlib.Core.Option.{Option, none, some}
 use mathlib.Core.Path.{_≡_, refl, sym, ap, _∙_, subst}
-use Prim.Native.Nat.{ℕ, zero, suc, _+_, _≤_, _<_}
+use Prim.Native.Nat.{ℕ, zero, suc, _+_, _-_, _≤_, _<_}
 use native.Mathlib.Nat.{add-zero, zero-add}
 use native.Mathlib.Numerals.{add-one}
 use native.Mathlib.Omega.{arith}
 use lib.ListN.{length, getD, drop, drop-of-length-le}
 use lib.Seq.{drop-cons}
-use Rattle.tables.specs.ModelTable.{countOf, modelOf, GoodModel, HoldsModel}
-use Rattle.tables.specs.Records.{Element, Item, child, text, Model, listOf, removeItem}
+use Rattle.tables.specs.Records.{Element, Item, child, text}
 use Rattle.schema_calls.specs.declared.calls.Found.{Found}
 use Rattle.schema_calls.specs.declared.calls.Found.the-variants.{At, Missing}
-use Rattle.merge_rules.specs.Log.{firstPlaceOf, takeOut}
+use Rattle.merge_rules.specs.Log.{firstPlaceOf}
 use Rattle.changes.specs.Places.{isChild, placeIs, FirstPlace}
-use Rattle.table_test.specs.Fits.{KeepsModel}
-use Rattle.table_test.proofs.Laws.Fits.{fits-remove}
+use Rattle.table_test.specs.ModelTest.{onceIn}
+use Rattle.changes.proofs.Laws.Once.{once-first}
 
 -- a place counted from i on
 abbrev pub behind : ℕ → Option ℕ → Option ℕ
@@ -37,6 +36,11 @@ this-place : (e : Element) (a : Item) (l : List Item) → isChild e a ≡ true �
 unfolding firstPlaceOf
 this-place e (child c) l h = rw (firstPlaceOf, h)
 this-place e (text t) l h = absurd (false≢true h)
+
+no-place : (e : Element) (a : Item) (l : List Item) → isChild e a ≡ false → firstPlaceOf e l ≡ none → firstPlaceOf e (a ∷ l) ≡ none
+unfolding firstPlaceOf
+no-place e (child c) l h k = rw (firstPlaceOf, h, k)
+no-place e (text t) l h k = rw (firstPlaceOf, k)
 
 module _ (e : Element) (l : List Item) where
   -- what the search from place i on finds is what the whole search finds
@@ -64,17 +68,29 @@ module _ (e : Element) (l : List Item) where
   unfolding firstPlaceOf
   search-end i h inv = record { is = rw (drop-of-length-le l h) at inv; within = tt }
 
--- ---- what leaves a list
+  -- from place i on the element does not stand
+  abbrev pub NoneFrom : ℕ → Type 0
+  NoneFrom i = firstPlaceOf e (drop i l) ≡ none
 
-pub out-none : (xs : List ℕ) (e p : Element) (r : Found) → GoodModel xs → FirstPlace e (listOf (modelOf xs) p) r → r ≡ Missing
-    → HoldsModel xs (takeOut e p (modelOf xs))
-unfolding takeOut
-out-none xs e p r g f m = record { good = g; is = sym (rw (takeOut, rw m at (sym (f .is)))) }
+  pub back-start : (n : ℕ) → n ≡ length l → NoneFrom n
+  unfolding firstPlaceOf
+  back-start n h = rw (drop-of-length-le l {i = n} (omega arith))
 
-pub out-some : (xs ys : List ℕ) (e p i : ℕ) (r : Found) → FirstPlace e (listOf (modelOf xs) p) r → r ≡ At i → HoldsModel ys (removeItem (modelOf xs) p i)
-    → HoldsModel ys (takeOut e p (modelOf xs))
-unfolding takeOut
-out-some xs ys e p i r f m h = record { good = h .good; is = h .is ∙ sym (rw (takeOut, rw m at (sym (f .is)))) }
+  pub back-more : (i : ℕ) (a : Item) → 0 < i → i ≤ length l → a ≡ getD l (i - 1) (child 0) → isChild e a ≡ false → NoneFrom i → NoneFrom (i - 1)
+  back-more i a o h s n none-behind =
+      let z : suc (i - 1) ≡ i = omega arith in
+      let d : drop (i - 1) l ≡ a ∷ drop i l = rw s (drop-cons l (i - 1) (child 0) (omega arith) ∙ ap (λ (k : ℕ). getD l (i - 1) (child 0) ∷ drop k l) z) in
+      rw d (no-place e a (drop i l) n none-behind)
+
+  pub back-found : (i : ℕ) (a : Item) → 0 < i → i ≤ length l → a ≡ getD l (i - 1) (child 0) → isChild e a ≡ true → onceIn l ≡ true → FirstPlace e l (At (i - 1))
+  back-found i a o h s n once =
+      let low : i - 1 < length l = omega arith in
+      record { is = sym (once-first e l (i - 1) once low (rw s at n)); within = low }
+
+  pub back-end : (i : ℕ) → i ≤ 0 → NoneFrom i → FirstPlace e l Missing
+  back-end i h none-behind =
+      let z : i ≡ 0 = omega arith in
+      record { is = sym (rw z at none-behind); within = tt }
 
 pub place-within : (e : Element) (l : List Item) (i : ℕ) (r : Found) → FirstPlace e l r → r ≡ At i → i < length l
 place-within e l i r f m = rw m at (f .within)

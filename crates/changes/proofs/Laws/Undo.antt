@@ -1,5 +1,5 @@
 -- Undoing on the lent tables: one entry, and the newest first down to a mark. Assumes nothing.
-use mathlib.Core.Bool.{true, false}
+use mathlib.Core.Bool.{Bool, true, false}
 use mathlib.Core.List.{List, [], _∷_}
 use mathlib.Core.Option.{Option}
 use mathlib.Core.Path.{_≡_, refl, sym, ap, _∙_, subst}
@@ -12,50 +12,66 @@ use Rattle.tables.specs.FileSets.{withoutFile}
 use Rattle.tables.specs.Limits.{itemLimit}
 use Rattle.tables.specs.LogTable.{logOf, GoodLog, HoldsLog, noEntry, entryAt}
 use Rattle.tables.specs.ModelTable.{countOf, modelOf, ParentBelow, GoodModel, HoldsModel}
-use Rattle.tables.specs.Records.{Element, FileNumber, FileSet, Model, Entry, import, restriction, extension, Log, State, setOf, putParent, putSet}
+use Rattle.tables.specs.Records.{Element, FileNumber, FileSet, Model, Entry, import, restriction, extension, Log, State, setOf, putParent, putSet, putList, removeItems}
 use Rattle.tables.proofs.Laws.Cells.{each-getD}
 use Rattle.tables.proofs.Laws.Model.{count-putParent}
 use Rattle.table_test.specs.LogTest.{EntryIn}
+use Rattle.table_test.specs.ModelTest.{modelOnce}
 use Rattle.state_test.specs.StateTest.{stateIn}
 use Rattle.merge_rules.specs.Log.{takeOut, undo, undoTo, rollbackMerge}
 use Rattle.table_test.specs.Fits.{ModelFits, LogFits, StateFits, KeepsModel, KeepsState}
 use Rattle.table_test.proofs.Laws.Fits.{good-fits, keeps-count, fits-set, fits-parent, fits-pop}
+use Rattle.changes.specs.Runs.{withoutRun, RunIn, OnceIf, Leads}
+use Rattle.changes.specs.declared.log.Run.{Run}
+use Rattle.changes.proofs.Laws.Runs.{none-leave}
 
+-- what the stores of an import's undoing ask
 module _ (m : List ℕ) where
-  pub undo-import : (m₁ m₂ m₃ : List ℕ) (e p : Element) (parent : Option Element) (set : FileSet) → HoldsModel m₁ (takeOut e p (modelOf m))
-      → HoldsModel m₂ (putParent (modelOf m₁) e parent) → HoldsModel m₃ (putSet (modelOf m₂) e set)
-      → HoldsModel m₃ (undo (import e p parent set) (modelOf m))
-  unfolding undo
-  undo-import m₁ m₂ m₃ e p parent set h₁ h₂ h₃ = record { good = h₃ .good; is = rw (h₂ .is, h₁ .is) at (h₃ .is) }
-
-  pub keeps-undone-import : (m₁ m₂ m₃ : List ℕ) (e : Element) (parent : Option Element) (set : FileSet) → KeepsModel m m₁
-      → HoldsModel m₂ (putParent (modelOf m₁) e parent) → HoldsModel m₃ (putSet (modelOf m₂) e set) → KeepsModel m m₃
-  keeps-undone-import m₁ m₂ m₃ e parent set k h₂ h₃ n texts f = fits-set (fits-parent (k n texts f) e parent h₂) e set h₃
-
-  pub keeps-set : (m₁ : List ℕ) (e : Element) (set : FileSet) → HoldsModel m₁ (putSet (modelOf m) e set) → KeepsModel m m₁
-  keeps-set m₁ e set h n texts f = fits-set f e set h
-
-  pub undo-restriction : (m₁ : List ℕ) (e : Element) (set : FileSet) → HoldsModel m₁ (putSet (modelOf m) e set)
-      → HoldsModel m₁ (undo (restriction e set) (modelOf m))
-  unfolding undo
-  undo-restriction m₁ e set h = h
-
-  pub undo-extension : (m₁ : List ℕ) (e : Element) (f : FileNumber) (old set : FileSet) → old ≡ setOf (modelOf m) e → set ≡ withoutFile old f
-      → HoldsModel m₁ (putSet (modelOf m) e set) → HoldsModel m₁ (undo (extension e f) (modelOf m))
-  unfolding undo
-  undo-extension m₁ e f old set o s h = rw (s, o) at h
-
-  -- what the stores of an import's undoing ask
-  pub undo-parent-asks : (m₁ : List ℕ) (e p : Element) (parent : Option Element) → GoodModel m → KeepsModel m m₁ → HoldsModel m₁ (takeOut e p (modelOf m))
+  pub undo-parent-asks : (m₁ : List ℕ) (e : Element) (parent : Option Element) → GoodModel m → KeepsModel m m₁ → GoodModel m₁
       → e < countOf (modelOf m) → ParentBelow (countOf (modelOf m)) parent
       → GoodModel m₁ × (e < countOf (modelOf m₁)) × ParentBelow (countOf (modelOf m₁)) parent
-  undo-parent-asks m₁ e p parent g k h low below =
+  undo-parent-asks m₁ e parent g k h low below =
       let z = keeps-count m m₁ g k in
-      (h .good, rw z low, rw z below)
+      (h, rw z low, rw z below)
 
   pub undo-set-asks : (m₁ m₂ : List ℕ) (e : Element) (parent : Option Element) → GoodModel m → KeepsModel m m₁ → HoldsModel m₂ (putParent (modelOf m₁) e parent)
       → e < countOf (modelOf m) → GoodModel m₂ × (e < countOf (modelOf m₂))
   undo-set-asks m₁ m₂ e parent g k h low = (h .good, rw (h .is, count-putParent (modelOf m₁) e parent, keeps-count m m₁ g k) low)
+
+module _ (m : List ℕ) (o : Bool) (r : Run) where
+  pub undo-import : (m₁ m₂ m₃ : List ℕ) (q : Run) (e p : Element) (parent : Option Element) (set : FileSet) → Leads (takeOut e p) o r q m m₁
+      → HoldsModel m₂ (putParent (modelOf m₁) e parent) → HoldsModel m₃ (putSet (modelOf m₂) e set)
+      → Leads (undo (import e p parent set)) o r q m m₃
+  unfolding undo modelOnce putSet putParent removeItems putList
+  undo-import m₁ m₂ m₃ q e p parent set t h₂ h₃ =
+      record {
+        good = h₃ .good;
+        within = rw (h₃ .is, h₂ .is) (t .within);
+        once = λ x. rw (h₃ .is, h₂ .is) (t .once x);
+        is = rw (h₃ .is, h₂ .is) (ap (λ (k : Model). putSet (putParent k e parent) e set) (t .is));
+        keeps = λ n texts f. fits-set (fits-parent (t .keeps n texts f) e parent h₂) e set h₃;
+      }
+
+  module _ (within : RunIn (modelOf m) r) (once : OnceIf o (modelOf m)) (m₁ : List ℕ) (e : Element) (set : FileSet)
+      (h : HoldsModel m₁ (putSet (modelOf m) e set)) where
+    undo-set : (a : Entry) → putSet (withoutRun r (modelOf m)) e set ≡ undo a (withoutRun r (modelOf m)) → Leads (undo a) o r r m m₁
+    unfolding modelOnce putSet removeItems putList
+    undo-set a u =
+        record {
+          good = h .good;
+          within = rw (h .is) within;
+          once = λ x. rw (h .is) (once x);
+          is = rw (h .is) u;
+          keeps = λ n texts f. fits-set f e set h;
+        }
+
+    pub undo-restriction : Leads (undo (restriction e set)) o r r m m₁
+    unfolding undo
+    undo-restriction = undo-set (restriction e set) refl
+
+    pub undo-extension : (f : FileNumber) (old : FileSet) → old ≡ setOf (modelOf m) e → set ≡ withoutFile old f → Leads (undo (extension e f)) o r r m m₁
+    unfolding undo removeItems putList
+    undo-extension f old was s = undo-set (extension e f) (rw (s, was))
 
 -- ---- down to a mark
 
@@ -73,43 +89,63 @@ undo-end mark [] m h = refl
 undo-end mark (b ∷ l) m h = rw (undoTo, lt-leb mark (length l) (omega arith))
 
 -- what is left to undo leads to what the whole leads to
-pub record RollingBack (mark : ℕ) (m₀ l₀ m l : List ℕ) (n : ℕ) : Type 0 where
+pub record RollingBack (mark : ℕ) (o : Bool) (m₀ l₀ m l : List ℕ) (r : Run) (n : ℕ) : Type 0 where
   pub modelGood : GoodModel m
   pub logGood : GoodLog l
   pub count : n ≡ length (logOf l)
   pub entries : Each (EntryIn (countOf (modelOf m))) (logOf l)
   pub keeps : KeepsState m₀ l₀ m l
-  pub left : undoTo mark (logOf l) (modelOf m) ≡ undoTo mark (logOf l₀) (modelOf m₀)
+  pub within : RunIn (modelOf m) r
+  pub once : OnceIf o (modelOf m)
+  pub left : undoTo mark (logOf l) (withoutRun r (modelOf m)) ≡ undoTo mark (logOf l₀) (modelOf m₀)
 
-module _ (mark : ℕ) (m₀ l₀ : List ℕ) where
-  pub rolling-start : (n : ℕ) → GoodModel m₀ → GoodLog l₀ → Each (EntryIn (countOf (modelOf m₀))) (logOf l₀) → n ≡ length (logOf l₀)
-      → RollingBack mark m₀ l₀ m₀ l₀ n
-  rolling-start n gm gl entries count =
-      record { modelGood = gm; logGood = gl; count = count; entries = entries; keeps = λ n texts f. f; left = refl }
+module _ (mark : ℕ) (o : Bool) (m₀ l₀ : List ℕ) where
+  pub rolling-start : (r : Run) (n : ℕ) → GoodModel m₀ → GoodLog l₀ → Each (EntryIn (countOf (modelOf m₀))) (logOf l₀) → n ≡ length (logOf l₀)
+      → OnceIf o (modelOf m₀) → r .i ≡ 0 → r .k ≡ 0 → RollingBack mark o m₀ l₀ m₀ l₀ r n
+  rolling-start r n gm gl entries count once i k =
+      record {
+        modelGood = gm;
+        logGood = gl;
+        count = count;
+        entries = entries;
+        keeps = λ n texts f. f;
+        within = rw (i, k) (omega arith);
+        once = once;
+        left = ap (undoTo mark (logOf l₀)) (none-leave (modelOf m₀) r k);
+      }
 
   -- the newest entry is in range
-  pub newest-in : (m l : List ℕ) (n k : ℕ) (a : Entry) → RollingBack mark m₀ l₀ m l n → k < n → a ≡ entryAt (logOf l) k → EntryIn (countOf (modelOf m)) a
-  newest-in m l n k a r h e =
+  pub newest-in : (m l : List ℕ) (r : Run) (n k : ℕ) (a : Entry) → RollingBack mark o m₀ l₀ m l r n → k < n → a ≡ entryAt (logOf l) k → EntryIn (countOf (modelOf m)) a
+  newest-in m l r n k a b h e =
       subst (EntryIn (countOf (modelOf m))) (sym e)
-      (each-getD (EntryIn (countOf (modelOf m))) (logOf l) (length (logOf l) - suc k) noEntry (r .entries) (omega (arith, r .count)))
+      (each-getD (EntryIn (countOf (modelOf m))) (logOf l) (length (logOf l) - suc k) noEntry (b .entries) (omega (arith, b .count)))
 
-  pub rolling-turn : (m l m′ l′ : List ℕ) (n k : ℕ) (a : Entry) → RollingBack mark m₀ l₀ m l n → mark < n → k ≡ n - 1 → a ≡ entryAt (logOf l) k
-      → HoldsLog l′ (drop 1 (logOf l)) → HoldsModel m′ (undo a (modelOf m)) → KeepsModel m m′ → RollingBack mark m₀ l₀ m′ l′ k
-  rolling-turn m l m′ l′ n k a r h z e hl hm km =
+  pub rolling-turn : (m l m′ l′ : List ℕ) (r q : Run) (n k : ℕ) (a : Entry) → RollingBack mark o m₀ l₀ m l r n → mark < n → k ≡ n - 1 → a ≡ entryAt (logOf l) k
+      → HoldsLog l′ (drop 1 (logOf l)) → Leads (undo a) o r q m m′ → RollingBack mark o m₀ l₀ m′ l′ q k
+  rolling-turn m l m′ l′ r q n k a b h z e hl hm =
       let c = countOf (modelOf m) in
-      let f = km c itemLimit (good-fits m (r .modelGood)) in
-      let g : LogFits c l = record { good = r .logGood; entries = r .entries } in
+      let f = hm .keeps c itemLimit (good-fits m (b .modelGood)) in
+      let g : LogFits c l = record { good = b .logGood; entries = b .entries } in
       record {
         modelGood = hm .good;
         logGood = hl .good;
-        count = rw (hl .is, length-drop) (omega (arith, r .count));
+        count = rw (hl .is, length-drop) (omega (arith, b .count));
         entries = rw (f .same) (fits-pop g hl .entries);
         keeps = λ n texts s.
-            let t = r .keeps n texts s in
-            record { modelFits = km n texts (t .modelFits); logFits = fits-pop (t .logFits) hl };
-        left = rw (hl .is, hm .is) (undo-turn mark (logOf l) (modelOf m) a k (omega (arith, r .count)) (omega (arith, r .count)) (omega arith) e ∙ r .left);
+            let t = b .keeps n texts s in
+            record { modelFits = hm .keeps n texts (t .modelFits); logFits = fits-pop (t .logFits) hl };
+        within = hm .within;
+        once = hm .once;
+        left = rw (hl .is, hm .is)
+            (undo-turn mark (logOf l) (withoutRun r (modelOf m)) a k (omega (arith, b .count)) (omega (arith, b .count)) (omega arith) e ∙ b .left);
       }
 
-  pub rolling-end : (m l : List ℕ) (n : ℕ) → n ≤ mark → RollingBack mark m₀ l₀ m l n → stateIn m l ≡ rollbackMerge mark (stateIn m₀ l₀)
-  unfolding rollbackMerge
-  rolling-end m l n h r = undo-end mark (logOf l) (modelOf m) (omega (arith, r .count)) ∙ r .left
+  module _ (m m′ l : List ℕ) (r : Run) (n : ℕ) (b : RollingBack mark o m₀ l₀ m l r n) where
+    pub rolling-end : n ≤ mark → HoldsModel m′ (withoutRun r (modelOf m)) → stateIn m′ l ≡ rollbackMerge mark (stateIn m₀ l₀)
+    unfolding rollbackMerge
+    rolling-end h hm = rw (hm .is) (undo-end mark (logOf l) (withoutRun r (modelOf m)) (omega (arith, b .count)) ∙ b .left)
+
+    pub rolling-keeps : KeepsModel m m′ → KeepsState m₀ l₀ m′ l
+    rolling-keeps k n texts s =
+        let t = b .keeps n texts s in
+        record { modelFits = k n texts (t .modelFits); logFits = t .logFits }

@@ -12,12 +12,12 @@ use borrow.Author.Tests.{lt-leb}
 use lib.Dec.{leb, leb·zero, leb·suc-suc}
 use lib.ListN.{length, length-append}
 use Rattle.tables.specs.declared.path.Path.{Path}
-use Rattle.tables.specs.Paths.{front, partsOf, pathCells}
+use Rattle.tables.specs.Paths.{front, partsOf}
 use Rattle.tables.specs.Records.{SchemaPath}
 use Rattle.deck.specs.Deck.{Part, parts, number, decimal, pathParts, pathField}
 use Rattle.tables.specs.Cells.{between}
 use Rattle.tables.specs.Limits.{partLimit}
-use Rattle.deck.specs.Answers.{whole, partAt, Next, PathPut}
+use Rattle.deck.specs.Answers.{whole, partAt, Next}
 use Rattle.deck.proofs.Laws.Parts.{parts-some, next-part, last-part}
 
 -- ---- one more part in the cells
@@ -26,43 +26,46 @@ abbrev path : ℕ → ℕ → ℕ → ℕ → Path
 path a b c d = (a, b, c, d)
 
 module _ (v : ℕ) where
-  pub put-0 : (p : Path) → length (partsOf p) ≡ 0 → PathPut p v (path (v + 1) 0 0 0)
-  unfolding front pathCells
+  pub put-0 : (p : Path) → length (partsOf p) ≡ 0 → partsOf (path (v + 1) 0 0 0) ≡ partsOf p ++ (v ∷ [])
+  unfolding front
   put-0 p h = go (p .0) (p .1) (p .2) (p .3) h
     where
-      go : (a b c d : ℕ) → length (front (a ∷ b ∷ c ∷ d ∷ [])) ≡ 0 → PathPut (path a b c d) v (path (v + 1) 0 0 0)
-      go zero b c d h = rw (add-one v) (record { is = refl; fits = refl })
+      go : (a b c d : ℕ) → length (front (a ∷ b ∷ c ∷ d ∷ [])) ≡ 0 → partsOf (path (v + 1) 0 0 0) ≡ partsOf (path a b c d) ++ (v ∷ [])
+      go zero b c d h = rw (add-one v)
       go (suc a) b c d h = absurd (omega arith)
 
-  pub put-1 : (p : Path) → length (partsOf p) ≡ 1 → PathPut p v (path (p .0) (v + 1) 0 0)
-  unfolding front pathCells
+  pub put-1 : (p : Path) → length (partsOf p) ≡ 1 → partsOf (path (p .0) (v + 1) 0 0) ≡ partsOf p ++ (v ∷ [])
+  unfolding front
   put-1 p h = go (p .0) (p .1) (p .2) (p .3) h
     where
-      go : (a b c d : ℕ) → length (front (a ∷ b ∷ c ∷ d ∷ [])) ≡ 1 → PathPut (path a b c d) v (path a (v + 1) 0 0)
+      go : (a b c d : ℕ) → length (front (a ∷ b ∷ c ∷ d ∷ [])) ≡ 1 → partsOf (path a (v + 1) 0 0) ≡ partsOf (path a b c d) ++ (v ∷ [])
       go zero b c d h = absurd (omega arith)
-      go (suc a) zero c d h = rw (add-one v) (record { is = refl; fits = refl })
+      go (suc a) zero c d h = rw (add-one v)
       go (suc a) (suc b) c d h = absurd (omega arith)
 
-  pub put-2 : (p : Path) → length (partsOf p) ≡ 2 → PathPut p v (path (p .0) (p .1) (v + 1) 0)
-  unfolding front pathCells
+  pub put-2 : (p : Path) → length (partsOf p) ≡ 2 → partsOf (path (p .0) (p .1) (v + 1) 0) ≡ partsOf p ++ (v ∷ [])
+  unfolding front
   put-2 p h = go (p .0) (p .1) (p .2) (p .3) h
     where
-      go : (a b c d : ℕ) → length (front (a ∷ b ∷ c ∷ d ∷ [])) ≡ 2 → PathPut (path a b c d) v (path a b (v + 1) 0)
+      go : (a b c d : ℕ) → length (front (a ∷ b ∷ c ∷ d ∷ [])) ≡ 2 → partsOf (path a b (v + 1) 0) ≡ partsOf (path a b c d) ++ (v ∷ [])
       go zero b c d h = absurd (omega arith)
       go (suc a) zero c d h = absurd (omega arith)
-      go (suc a) (suc b) zero d h = rw (add-one v) (record { is = refl; fits = refl })
+      go (suc a) (suc b) zero d h = rw (add-one v)
       go (suc a) (suc b) (suc c) d h = absurd (omega arith)
 
-  pub put-3 : (p : Path) → length (partsOf p) ≡ 3 → PathPut p v (path (p .0) (p .1) (p .2) (v + 1))
-  unfolding front pathCells
+  pub put-3 : (p : Path) → length (partsOf p) ≡ 3 → partsOf (path (p .0) (p .1) (p .2) (v + 1)) ≡ partsOf p ++ (v ∷ [])
+  unfolding front
   put-3 p h = go (p .0) (p .1) (p .2) (p .3) h
     where
-      go : (a b c d : ℕ) → length (front (a ∷ b ∷ c ∷ d ∷ [])) ≡ 3 → PathPut (path a b c d) v (path a b c (v + 1))
+      go : (a b c d : ℕ) → length (front (a ∷ b ∷ c ∷ d ∷ [])) ≡ 3 → partsOf (path a b c (v + 1)) ≡ partsOf (path a b c d) ++ (v ∷ [])
       go zero b c d h = absurd (omega arith)
       go (suc a) zero c d h = absurd (omega arith)
       go (suc a) (suc b) zero d h = absurd (omega arith)
-      go (suc a) (suc b) (suc c) zero h = rw (add-one v) (record { is = refl; fits = refl })
+      go (suc a) (suc b) (suc c) zero h = rw (add-one v)
       go (suc a) (suc b) (suc c) (suc d) h = absurd (omega arith)
+
+pub put-some : (p r : Path) (v : ℕ) → partsOf r ≡ partsOf p ++ (v ∷ []) → 0 < length (partsOf r)
+put-some p r v put = rw (put, length-append) (omega arith)
 
 -- ---- the parts that are left
 

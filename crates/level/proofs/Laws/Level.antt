@@ -10,28 +10,33 @@ use lib.ListN.{length, getD, take}
 use lib.Seq.{getD-take}
 use Rattle.tables.specs.Limits.{versionLimit}
 use Rattle.tables.specs.ElementsTable.{elementsOf}
-use Rattle.tables.specs.ModelTable.{modelOf}
-use Rattle.tables.specs.Records.{Element, FileNumber, FileSet, Version, State, Fixed}
+use Rattle.tables.specs.ModelTable.{itemIs, modelOf}
+use Rattle.tables.specs.Records.{Element, FileNumber, FileSet, Version, Item, child, text, State, Fixed}
+use Rattle.tables.specs.declared.model.Item as program
+use Rattle.tables.specs.declared.model.Item.the-variants.{Text as TextItem}
 use Rattle.tables.specs.SchemaTable.{schemaOf}
 use Rattle.table_test.specs.Fits.{StateOver, KeepsState}
 use Rattle.table_test.specs.SchemaTest.{TestedSchema}
 use Rattle.deck.specs.Schema.{versionOf, leastVersion}
 use Rattle.state_test.specs.StateTest.{fixedIn, stateIn}
 use Rattle.state_test.proofs.Laws.States.{version-low, least-low}
-use Rattle.merge_rules.specs.Level.{filesOfPair, settle, mergeSubElements, mergePlan, levelVersion, mergeElement}
-use Rattle.merge_rules.specs.Pairing.{childrenOf, Plan, Walked, planned, unmergeableIn, walkLevel, firstUsedTwice}
+use Rattle.merge_rules.specs.Import.{importNewItems}
+use Rattle.merge_rules.specs.Level.{filesOfPair, extendPair, restrictElements, settle, mergeSubElements, mergePlan, levelVersion, mergeElement}
+use Rattle.merge_rules.specs.Pairing.{children, childrenOf, Plan, Walked, planned, unmergeableIn, walkLevel, firstUsedTwice}
 use Rattle.merge_rules.specs.Refusals.{Outcome, done, refused, unmergeable, usedTwice, _>>=_}
 use Rattle.pairing.specs.Plans.{spread, pairIn, rowElement, rowValue, planIn, RowsIn, LevelPlan, levelPlan, childUsedTwice, levelUnmergeable, orUsedTwice, checkedPlan, planLevel, plannedIs, PlanIn}
 use Rattle.pairing.specs.declared.plan.Planned.{Planned}
 use Rattle.pairing.specs.declared.plan.Planned.the-variants.{Rows, UsedTwice, Unmergeable}
 use Rattle.pairing.proofs.Laws.Spreads.{spread-here, spread-done}
 use Rattle.pairing.proofs.Laws.Rows.{mated, not-mated}
+use Rattle.pairing.proofs.Laws.Laying.{level-first}
+use Rattle.pairing.proofs.Laws.Walks.{noPlan}
 use Rattle.changes.specs.Answers.{outcomeIs}
 use Rattle.changes.specs.declared.refusals.Outcome as step
 use Rattle.changes.specs.declared.refusals.Outcome.the-variants.{Done}
 use Rattle.changes.proofs.refusals.Outcome.{the-type}
 use Rattle.changes.proofs.Laws.Imports.{then-done, then-stop}
-use Rattle.level.specs.Level.{applyPlan, mergeLevel}
+use Rattle.level.specs.Level.{applyPlan, mergeLevel, Bare}
 
 -- ---- versions
 
@@ -99,6 +104,36 @@ module _ (d : ℕ) (x : Fixed) (f : FileNumber) (files : FileSet) (a b : Element
       pub level-pairs : o ≡ Done → mergeSubElements (mergeElement d x f) x f v a files (planIn na 0 w .pairs) t ≡ mergeElement (suc d) x f files a b s
       unfolding mergeLevel
       level-pairs h = sym (then-done t _ o applied h) ∙ sym (by-plan (levelPlan (planIn na ni w)) (rw rows))
+
+-- ---- levels that change nothing
+
+module _ (l : List Item) {n : ℕ} (en : n ≡ length l) where
+  empty-children : (k : List Item) → length k ≡ 0 → children k ≡ []
+  unfolding children
+  empty-children [] h = refl
+  empty-children (i ∷ k) h = absurd (omega arith)
+
+  text-children : (k : List Item) (t : ℕ) → length k ≡ 1 → text t ≡ getD k 0 (child 0) → children k ≡ []
+  unfolding children
+  text-children [] t h e = absurd (omega arith)
+  text-children (child c ∷ k) t h e = let z : _≡_ {A = ℕ} 0 1 = cc in absurd (omega arith)
+  text-children (text u ∷ []) t h e = refl
+  text-children (text u ∷ i ∷ k) t h e = absurd (omega arith)
+
+  pub leaf-none : n ≡ 0 → children l ≡ []
+  leaf-none e = empty-children l (sym en ∙ e)
+
+  pub leaf-text : n ≡ 1 → {a : program.Item} → itemIs a ≡ getD l 0 (child 0) → {t : ℕ} → a ≡ TextItem t → children l ≡ []
+  leaf-text e ea {t} k = text-children l t (sym en ∙ e) (sym (ap itemIs k) ∙ ea)
+
+pub level-bare : (d : ℕ) (x : Fixed) (f : FileNumber) (files : FileSet) (a b : Element) (s : State) → Bare d (s .model) a b
+    → done s ≡ mergeElement d x f files a b s
+unfolding mergeLevel applyPlan restrictElements importNewItems mergeSubElements _>>=_
+level-bare d x f files a b s e =
+    let v = levelVersion x f files in
+    let p : planLevel x (s .model) v a b ≡ levelPlan noPlan = level-first x (s .model) v a b (e .second) ∙ rw (e .first) in
+    let n : d ≡ 0 → ⊥ = λ z. omega (arith, e .deep) in
+    sym (sym (level-less d x f files a b s n) ∙ level-is (d - 1) x f files a b s ∙ rw p)
 
 -- the rows of A alone
 pub rows-first : (n : ℕ) (w : List ℕ) (na ni : ℕ) → RowsIn n w na ni → RowsIn n w na 0
@@ -221,3 +256,21 @@ module _ (lower : FileSet → Element → Element → State → Outcome) (deck s
               keeps = λ n texts q. second n texts (first n texts (k .keeps n texts q));
               left = sym (then-done (stateIn m₂ l₂) _ o₂ is d) ∙ sym here ∙ k .left;
             }
+
+      -- a pair whose level changes nothing, and what became of it
+      module _ (some : rowValue w i ≡ 0 → ⊥) (m₂ l₂ : List ℕ) (o₂ : step.Outcome)
+          (bare : (own : FileSet) → done (stateIn m l) ≡ lower own (rowElement w i) (rowValue w i - 1) (stateIn m l))
+          (extended : outcomeIs o₂ (stateIn m₂ l₂) ≡ extendPair f (rowElement w i) (stateIn m l)) where
+        abbrev own-files : FileSet
+        own-files = filesOfPair files (modelOf m) (rowElement w i)
+
+        pub bare-stop : OneOf (1 ∷ 2 ∷ []) (tagOf the-type o₂)
+            → outcomeIs o₂ (stateIn m₂ l₂) ≡ mergeSubElements lower (fixedIn deck schema elements) f v p files (planIn na 0 w₀ .pairs) (stateIn m₀ l₀)
+        unfolding settle
+        bare-stop = pairs-stop some own-files (length (stateIn m l .log)) m l Done m₂ l₂ o₂ refl refl (bare own-files) extended
+
+        pub bare-more : length m₂ ≡ length m → length l₂ ≡ length l → o₂ ≡ Done → KeepsState m l m₂ l₂ → PairsLeft w m₂ l₂ (i + 1)
+        unfolding settle
+        bare-more modelSize logSize d keeps =
+            pairs-more some own-files (length (stateIn m l .log)) m l Done m₂ l₂ o₂ refl refl (bare own-files) extended w refl refl modelSize logSize d
+            (λ n texts q. q) keeps

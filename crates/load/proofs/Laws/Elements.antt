@@ -89,6 +89,8 @@ module _ (l : Loading) (f : LoadingFits l) where
         files = f .files;
         oneLine = f .oneLine;
         oneTree = f .oneTree;
+        closed = f .closed;
+        early = f .early;
       }
 
   pub fits-child : (d : ℕ) (n : Name) (t : TypeNumber) (s : FileSet) (p : Element) → p < length (l .model .lists) → t < length (l .schema .types)
@@ -117,6 +119,8 @@ module _ (l : Loading) (f : LoadingFits l) where
         files = f .files;
         oneLine = f .oneLine;
         oneTree = f .oneTree;
+        closed = f .closed;
+        early = f .early;
       }
 
 -- ---- a root

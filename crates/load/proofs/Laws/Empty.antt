@@ -7,6 +7,7 @@ use native.Mathlib.Omega.{arith}
 use lib.ListN.{length, replicate, length-replicate, replicate-append-replicate}
 use Rattle.tables.specs.Cells.{padded, rowCells, cells}
 use Rattle.tables.specs.ElementsTable.{elementsSize, elementsArea, textsArea, treesArea, elementRows, encodeElements, HoldsElements}
+use Rattle.tables.specs.Index.{indexSize, indexCells, emptyIndex}
 use Rattle.tables.specs.Limits.{logLimit}
 use Rattle.tables.specs.LogTable.{logSize, entryWidth, encodeLog}
 use Rattle.tables.specs.ModelTable.{modelSize, HoldsModel}
@@ -17,18 +18,28 @@ use Rattle.tables.proofs.Laws.SchemaTable.{hold-schema}
 use Rattle.deck.specs.Load.{nothing}
 use Rattle.load.specs.LoadCall.{zeros}
 
-four-areas : (a b c d : ℕ) → replicate (suc (suc (suc (suc (a + (b + (c + d))))))) 0
-    ≡ 0 ∷ 0 ∷ 0 ∷ 0 ∷ (padded a [] ++ (padded b [] ++ (padded c [] ++ padded d [])))
+empty-index : emptyIndex ≡ replicate indexSize 0
+unfolding emptyIndex
+empty-index = refl
+
+-- the areas of the schema's table: four of rows, three indexes z of e cells
+schema-areas : (a b c d e : ℕ) (z : List ℕ) → z ≡ replicate e 0
+    → replicate (suc (suc (suc (suc (a + (b + (c + (d + (e + (e + e)))))))))) 0
+    ≡ 0 ∷ 0 ∷ 0 ∷ 0 ∷ (padded a [] ++ (padded b [] ++ (padded c [] ++ (padded d [] ++ (z ++ (z ++ z))))))
 unfolding padded
-four-areas a b c d =
+schema-areas a b c d e z h =
     rw (
       sub-zero a,
       sub-zero b,
       sub-zero c,
       sub-zero d,
-      ← replicate-append-replicate {A = ℕ} a (b + (c + d)) 0,
-      ← replicate-append-replicate {A = ℕ} b (c + d) 0,
-      ← replicate-append-replicate {A = ℕ} c d 0,
+      h,
+      ← replicate-append-replicate {A = ℕ} a (b + (c + (d + (e + (e + e))))) 0,
+      ← replicate-append-replicate {A = ℕ} b (c + (d + (e + (e + e)))) 0,
+      ← replicate-append-replicate {A = ℕ} c (d + (e + (e + e))) 0,
+      ← replicate-append-replicate {A = ℕ} d (e + (e + e)) 0,
+      ← replicate-append-replicate {A = ℕ} e (e + e) 0,
+      ← replicate-append-replicate {A = ℕ} e e 0,
     )
 
 three-areas : (a b c : ℕ) → replicate (suc (suc (suc (a + (b + c))))) 0 ≡ 0 ∷ 0 ∷ 0 ∷ (padded a [] ++ (padded b [] ++ padded c []))
@@ -49,9 +60,10 @@ module _ (xs ys : List ℕ) (e : ys ≡ zeros xs) where
   zeros-themselves = e ∙ ap (λ (n : ℕ). replicate n 0) (sym zeros-length)
 
   pub empty-schema : length xs ≡ schemaSize → HoldsSchema ys (nothing .schema)
-  unfolding encodeSchema cells rowCells
+  unfolding encodeSchema cells rowCells indexCells
   empty-schema l =
-      hold-schema (nothing .schema) ys (e ∙ ap (λ (n : ℕ). replicate n 0) l ∙ four-areas typesArea groupsArea rowsArea filesArea)
+      hold-schema (nothing .schema) ys
+      (e ∙ ap (λ (n : ℕ). replicate n 0) l ∙ schema-areas typesArea groupsArea rowsArea filesArea indexSize emptyIndex empty-index)
       (record { typeCount = omega arith; groupCount = omega arith; rowCount = omega arith; fileCount = omega arith; groupPaths = tt; rowPaths = tt })
 
   pub empty-elements : length xs ≡ elementsSize → HoldsElements ys (nothing .elements)

@@ -19,6 +19,7 @@ use Rattle.deck.specs.Answers.{partAt, Next, lineIs, LineAt}
 use Rattle.deck.specs.Deck.{Part, parts, lines, readLine}
 use Rattle.deck.specs.Load.{Loading, Res, ok, refused, Load, refusedAt, form, treeRule, limit, nothing, loadLines, finish, load}
 use Rattle.deck.proofs.Laws.Parts.{parts-some, between-cons, next-line, last-line}
+use Rattle.schema_calls.proofs.Laws.Closed.{closed-none}
 use Rattle.load.specs.Lines.{openLimit, loadingOf, taken, LoadingFits, GoodLoading, lineResult, verdictIs, StepResult}
 use Rattle.load.specs.LoadCall.{answerIs, Loads}
 use Rattle.load.specs.declared.load.Answer.{Answer}
@@ -50,6 +51,8 @@ fits-nothing =
       files = tt;
       oneLine = sym (taken-none (λ (d : File). d .file) fileLimit);
       oneTree = sym (taken-none (λ (t : Tree). t .file) fileLimit);
+      closed = closed-none (nothing .schema) refl refl;
+      early = λ h. refl;
     }
 
 -- ---- the lines so far

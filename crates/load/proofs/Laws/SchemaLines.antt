@@ -15,6 +15,8 @@ use Rattle.tables.proofs.Laws.Cells.{each-append, each-imp}
 use Rattle.deck.specs.Load.{Loading, Res, ok, refused, form, schemaRule, limit, kindT, kindG, kindS, kindF, need, _>>=_, putSchema, loadT, loadG, loadS, loadF}
 use Rattle.deck.specs.Schema.{groupRule, subElementRule}
 use Rattle.schema_calls.specs.Calls.{groupsAbove, rowsAbove}
+use Rattle.schema_calls.proofs.Laws.Closed.{closed-type, closed-file, closed-group, closed-row}
+use Rattle.schema_calls.proofs.Laws.Rules.{child-declared}
 use Rattle.schema_calls.proofs.Laws.Schemas.{groups-all, rows-all}
 use Rattle.load.specs.Lines.{loadingOf, LoadingFits, GoodLoading, StepResult}
 use Rattle.load.specs.declared.progress.Progress.{Progress}
@@ -123,10 +125,10 @@ below-new {A = A} number n (x ∷ l) h = go (ltb (number x) n) refl h (below-new
 
 -- ---- what each line keeps
 
-module _ (l : Loading) (f : LoadingFits l) (kind : ℕ) where
-  pub fits-type : (row : TypeRow) → LoadingFits (putSchema l kind (addType (l .schema) row))
+module _ (l : Loading) (f : LoadingFits l) where
+  pub fits-type : (row : TypeRow) → l .latest ≤ kindT → LoadingFits (putSchema l kindT (addType (l .schema) row))
   unfolding putSchema addType
-  fits-type row =
+  fits-type row h =
       let more : length (l .schema .types) ≤ length (l .schema .types ++ (row ∷ [])) =
       rw (length-append (l .schema .types) (row ∷ [])) (omega arith)
       in
@@ -143,11 +145,13 @@ module _ (l : Loading) (f : LoadingFits l) (kind : ℕ) where
         files = f .files;
         oneLine = f .oneLine;
         oneTree = f .oneTree;
+        closed = closed-type (l .schema) (f .closed) row;
+        early = λ k. f .early (omega arith);
       }
 
-  pub fits-group : (g : Group) → LoadingFits (putSchema l kind (addGroup (l .schema) g))
+  pub fits-group : (g : Group) → l .latest ≤ kindG → groupRule (l .schema) g ≡ true → LoadingFits (putSchema l kindG (addGroup (l .schema) g))
   unfolding putSchema addGroup
-  fits-group g =
+  fits-group g h rule =
       record {
         same = f .same;
         opened = f .opened;
@@ -157,24 +161,28 @@ module _ (l : Loading) (f : LoadingFits l) (kind : ℕ) where
         files = f .files;
         oneLine = f .oneLine;
         oneTree = f .oneTree;
+        closed = closed-group (l .schema) (f .closed) (f .early h) g rule;
+        early = λ k. f .early h;
       }
 
-  pub fits-row : (r : SubElement) → r .childType < length (l .schema .types) → LoadingFits (putSchema l kind (addSubElement (l .schema) r))
+  pub fits-row : (r : SubElement) → 0 < length (r .path) → subElementRule (l .schema) r ≡ true → LoadingFits (putSchema l kindS (addSubElement (l .schema) r))
   unfolding putSchema addSubElement
-  fits-row r h =
+  fits-row r part rule =
       record {
         same = f .same;
         opened = f .opened;
         known = f .known;
-        children = each-append (λ (a : SubElement). a .childType < length (l .schema .types)) (l .schema .subElements) (r ∷ []) (f .children) (h, tt);
+        children = each-append (λ (a : SubElement). a .childType < length (l .schema .types)) (l .schema .subElements) (r ∷ []) (f .children) (child-declared (l .schema) r rule, tt);
         texts = f .texts;
         files = f .files;
         oneLine = f .oneLine;
         oneTree = f .oneTree;
+        closed = closed-row (l .schema) (f .closed) r part rule;
+        early = λ k. absurd (omega arith);
       }
 
   pub fits-file : (d : File) → d .file < fileLimit → anyOf (λ (a : File). eqb (a .file) (d .file)) (l .schema .files) ≡ false
-      → LoadingFits (putSchema l kind (addFile (l .schema) d))
+      → LoadingFits (putSchema l kindF (addFile (l .schema) d))
   unfolding putSchema addFile
   fits-file d h new =
       record {
@@ -186,6 +194,8 @@ module _ (l : Loading) (f : LoadingFits l) (kind : ℕ) where
         files = each-append (λ (a : File). a .file < fileLimit) (l .schema .files) (d ∷ []) (f .files) (h, tt);
         oneLine = taken-more (λ (a : File). a .file) fileLimit (l .schema .files) d h new (f .oneLine);
         oneTree = f .oneTree;
+        closed = closed-file (l .schema) (f .closed) d;
+        early = λ k. absurd (omega arith);
       }
 
 -- ---- the schema's table holds what the line adds

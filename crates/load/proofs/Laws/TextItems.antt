@@ -67,6 +67,8 @@ fits-text l f p t k h =
       files = f .files;
       oneLine = f .oneLine;
       oneTree = f .oneTree;
+      closed = f .closed;
+      early = f .early;
     }
 
 -- ---- C

@@ -39,9 +39,9 @@ module _ (l : Loading) where
   m-taken h = passes _ _ (le-leb (l .latest) kindM (omega arith)) (passes _ _ (lt-ltb (l .latest) kindM h) refl)
 
   -- a root is due, and nothing is open
-  pub fits-opened : (kind : ℕ) (seen : Bool) → LoadingFits l → LoadingFits (openTree l kind seen (l .elements))
+  pub fits-opened : (seen : Bool) → LoadingFits l → LoadingFits (openTree l kindM seen (l .elements))
   unfolding openTree
-  fits-opened kind seen f =
+  fits-opened seen f =
       record {
         same = f .same;
         opened = tt;
@@ -51,6 +51,8 @@ module _ (l : Loading) where
         files = f .files;
         oneLine = f .oneLine;
         oneTree = f .oneTree;
+        closed = f .closed;
+        early = λ h. absurd (omega arith);
       }
 
   -- ---- B
@@ -98,10 +100,10 @@ module _ (l : Loading) where
     unfolding loadB
     b-taken h k = passes _ _ (gate-is h ∙ k) refl
 
-    pub fits-tree : (kind : ℕ) (seen : Bool) → LoadingFits l → f < fileLimit → mayWait l f ≡ true
-        → LoadingFits (openTree l kind seen (addTree (l .elements) tree))
+    pub fits-tree : (seen : Bool) → LoadingFits l → f < fileLimit → mayWait l f ≡ true
+        → LoadingFits (openTree l kindB seen (addTree (l .elements) tree))
     unfolding openTree addTree
-    fits-tree kind seen g h k =
+    fits-tree seen g h k =
         record {
           same = g .same;
           opened = tt;
@@ -111,6 +113,8 @@ module _ (l : Loading) where
           files = g .files;
           oneLine = g .oneLine;
           oneTree = taken-more (λ (t : Tree). t .file) fileLimit (l .elements .trees) tree h (wait-new l f k) (g .oneTree);
+          closed = g .closed;
+          early = λ h. absurd (omega arith);
         }
 
   -- ---- sets
@@ -150,7 +154,7 @@ module _ (s : Step) (p : Progress) (schema elements model : List ℕ) (g : GoodL
   unfolding openTree
   m-line to h =
       line-taken s (after kindM true) schema elements model (loadM l) (openTree l kindM true (elementsOf elements)) (told, to) refl (omega arith)
-      (g .room) (g .goodSchema) (g .goodElements) (g .goodModel) (fits-opened l kindM true (g .fits)) (m-taken l h)
+      (g .room) (g .goodSchema) (g .goodElements) (g .goodModel) (fits-opened l true (g .fits)) (m-taken l h)
 
   pub b-line : (f : FileNumber) (elements′ : List ℕ) → s .progress ≡ after kindB (p .seen) → f < fileLimit → p .due ≡ false → mayWait l f ≡ true
       → HoldsElements elements′ (addTree (elementsOf elements) (record { file = f; root = length (elementsOf elements .names) }))
@@ -160,4 +164,4 @@ module _ (s : Step) (p : Progress) (schema elements model : List ℕ) (g : GoodL
       let es = addTree (elementsOf elements) (record { file = f; root = length (elementsOf elements .names) }) in
       line-taken s (after kindB (p .seen)) schema elements′ model (loadB l f) (openTree l kindB (p .seen) es) (told, to)
       (ap (λ (x : Elements). openTree l kindB (p .seen) x) (held .is)) (omega arith) (g .room) (g .goodSchema) (held .good) (g .goodModel)
-      (fits-tree l f kindB (p .seen) (g .fits) small new) (b-taken l f due new)
+      (fits-tree l f (p .seen) (g .fits) small new) (b-taken l f due new)

@@ -20,6 +20,7 @@ use Rattle.tables.specs.ModelTable.{modelOf}
 use Rattle.tables.specs.SchemaTable.{schemaOf, modeNumber}
 use Rattle.deck.specs.Schema.{isCharacters}
 use Rattle.table_test.specs.Fits.{GoodFixed, StateFits, StateOver, KeepsState}
+use Rattle.table_test.specs.ModelTest.{modelOnce}
 use Rattle.table_test.proofs.Laws.Tested.{fixed-good, model-fits, log-fits}
 use Rattle.state_test.proofs.Laws.Passed.{root-there}
 use Rattle.state_test.proofs.Laws.States.{passed-tables}
@@ -53,6 +54,9 @@ module _ (deck schema elements model log : List ℕ) (p : lentTablesPass deck sc
   lent-state =
       let t = passed-tables deck schema elements model log p in
       record { modelFits = model-fits deck schema elements model log t; logFits = log-fits deck schema elements model log t }
+
+  pub lent-once : modelOnce (modelOf model) ≡ true
+  lent-once = passed-tables deck schema elements model log p .modelTested .once
 
   pub lent-root : 0 < length (elementsOf elements .names)
   lent-root = omega (arith, root-there deck schema elements model log p, lent-state .modelFits .same)

@@ -1,5 +1,5 @@
 -- Laws of lists that the library lacks. Assumes nothing.
-use mathlib.Core.Bool.{Bool, true, false, true≢false, false≢true}
+use mathlib.Core.Bool.{Bool, true, false, true≢false}
 use mathlib.Core.List.{List, [], _∷_, _++_, map, List·Memᴰ·head, List·Memᴰ·tail, List·Memᴰ·cases-cons, List·Memᴰ·append-cases, List·Memᴰ·eq-of-singleton, List·Memᴰ·not-nil}
 use mathlib.Core.Logic.{_⊎_, inl, inr, ⊎-elim}
 use mathlib.Core.Option.{Option, none, some, Option·none-ne-some, Option·some-injective}
@@ -7,11 +7,11 @@ use mathlib.Core.Path.{_≡_, refl, sym, ap, subst, _∙_}
 use Prim.Native.Nat.{ℕ, zero, suc, _+_, _≤_, _<_}
 use native.Mathlib.Nat.{le-of-suc-le-suc, not-suc-le-zero}
 use native.Mathlib.Omega.{arith}
-use borrow.Author.Tests.{eq-eqb, eqb-true}
+use borrow.Author.Tests.{eq-eqb}
 use lib.Dec.{eqb}
 use lib.ListN.{length, getD, getElem?, take, set, List·getD-eq-default}
 use Rattle.tables.specs.Cells.{Each}
-use Rattle.tables.specs.Lists.{anyOf, allOf, firstOf, insertAt, keep, sum, sameList}
+use Rattle.tables.specs.Lists.{anyOf, allOf, firstOf, insertAt, keep, sum}
 use Rattle.tables.specs.ModelTable.{flat}
 use Rattle.tables.specs.Records.{Element, Item, child, text}
 use Rattle.tables.proofs.Laws.Cells.{each-append}
@@ -152,16 +152,6 @@ module _ {A : Type 0} (t : A → Bool) where
   unfolding keep
   keep-all [] h = refl
   keep-all (x ∷ l) h = rw (h x (List·Memᴰ·head refl), keep) (ap (λ (r : List A). x ∷ r) (keep-all l (λ a i. h a (List·Memᴰ·tail i))))
-
--- lists that the test of equality passes
-pub same-bytes : (xs ys : List ℕ) → sameList xs ys ≡ true → xs ≡ ys
-unfolding sameList
-same-bytes [] [] h = refl
-same-bytes [] (b ∷ ys) h = absurd (false≢true h)
-same-bytes (a ∷ xs) [] h = absurd (false≢true h)
-same-bytes (a ∷ xs) (b ∷ ys) h =
-    bool-case (λ (t : Bool). t ≡ true → a ∷ xs ≡ b ∷ ys) (eqb a b)
-    (λ e k. ap (λ (c : ℕ). c ∷ xs) (eqb-true a b e) ∙ ap (λ (r : List ℕ). b ∷ r) (same-bytes xs ys k)) (λ _ k. absurd (false≢true k)) h
 
 -- ---- one entry more at the end
 

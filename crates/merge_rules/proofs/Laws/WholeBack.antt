@@ -1,10 +1,10 @@
 -- Line by line through a load: what is printed in the end is the deck's lines from the M line on. Assumes nothing.
 use mathlib.Core.Bool.{true, false, not, _&&_, false≢true, true≢false, and-eq-true-iff}
 use mathlib.Core.List.{List, [], _∷_, _++_, append-nil, append-assoc}
-use mathlib.Core.Logic.{_⊎_, inl, ⊎-elim}
+use mathlib.Core.Logic.{inl, ⊎-elim}
 use mathlib.Core.Option.{some, Option·some-injective}
 use mathlib.Core.Path.{_≡_, refl, sym, ap, _∙_}
-use Prim.Native.Nat.{ℕ, suc, _+_, _≤_, _<_}
+use Prim.Native.Nat.{ℕ, suc, _<_}
 use native.Mathlib.Omega.{arith}
 use borrow.Author.Tests.{leb-true, not-true}
 use lib.Dec.{leb, lit<, lit≤}
@@ -24,7 +24,7 @@ use Rattle.merge_rules.proofs.Laws.Back.{PrintedSoFar, complete-of, mod
 use Rattle.merge_rules.proofs.Laws.Cases.{list-case, some-value, IfOk, isOk, need-bind, given-bind, ok-case, ok-both}
 use Rattle.merge_rules.proofs.Laws.Forest.{forest, trees-forest}
 use Rattle.merge_rules.proofs.Laws.LinesBack.{At, parts-placed, read-back, M-read}
-use Rattle.merge_rules.proofs.Laws.Lists.{same-bytes}
+use Rattle.tables.proofs.Laws.Lists.{same-lists}
 use Rattle.merge_rules.proofs.Laws.Loaded.{fixedOf, LoadingSound, schema-stage, no-owner, loadLine-ok, sound-nothing}
 use Rattle.merge_rules.proofs.Laws.Parse.{PartIn, parts-in, read-ok}
 
@@ -51,7 +51,7 @@ part-other p ps e = rw (treePart, e)
 other-line : (p : Part) (line : Line) → readLine p ≡ some line → (line ≡ M → ⊥) → sameList (p .bytes) (bytes "M") ≡ false
 other-line p line e other =
     bool-split (sameList (p .bytes) (bytes "M"))
-    (λ t. absurd (other (Option·some-injective line M (sym e ∙ M-read p (same-bytes (p .bytes) (bytes "M") t))))) (λ t. t)
+    (λ t. absurd (other (Option·some-injective line M (sym e ∙ M-read p (same-lists (p .bytes) (bytes "M") t))))) (λ t. t)
 
 module _ (deck : List ℕ) where
   -- what is loaded prints as these bytes

@@ -16,7 +16,7 @@ use Rattle.tables.specs.declared.text.Place as code
 use Rattle.tables.proofs.Laws.Cases.{bool-split}
 use Rattle.merge_rules.specs.Pairing.{itemName, definition, sameKey}
 use Rattle.merge_rules.proofs.Laws.Cases.{same-or-other}
-use Rattle.merge_rules.proofs.Laws.Lists.{same-bytes}
+use Rattle.tables.proofs.Laws.Lists.{same-lists}
 use Rattle.pairing.specs.declared.keys.Key.{Key}
 use Rattle.pairing.specs.declared.keys.Key.the-variants.{At, Missing as NoKey}
 use Rattle.pairing.specs.declared.plan.Sides.{Sides}
@@ -31,7 +31,7 @@ unfolding sameKey
 same-keys none none h = refl
 same-keys none (some b) h = absurd (false≢true h)
 same-keys (some a) none h = absurd (false≢true h)
-same-keys (some a) (some b) h = ap some (same-bytes a b h)
+same-keys (some a) (some b) h = ap some (same-lists a b h)
 
 keys-differ : (a b : Option (List ℕ)) → (keyMark a ≡ keyMark b → ⊥) → sameKey a b ≡ false
 keys-differ a b n = bool-split (sameKey a b) (λ h. absurd (n (ap keyMark (same-keys a b h)))) (λ h. h)

@@ -8,17 +8,26 @@ use lib.ListN.{length}
 use Rattle.tables.specs.Paths.{front}
 use Rattle.tables.specs.Records.{SchemaPath, Group, Schema, typeRow}
 use Rattle.deck.specs.Schema.{groupAt, hasGroup, groupMode}
-use Rattle.schema_calls.specs.Calls.{groupsAbove}
+use Rattle.schema_calls.specs.Calls.{groupsAbove, Finds}
+use Rattle.schema_calls.specs.Search.{isFound}
+use Rattle.schema_calls.specs.declared.calls.Found.{Found}
+use Rattle.schema_calls.specs.declared.calls.Found.the-variants.{At, Missing}
+use Rattle.schema_calls.proofs.Laws.Scans.{found-at, found-missing}
 use Rattle.schema_calls.proofs.Laws.Schemas.{groups-all}
 
 module _ (sc : Schema) (t : ℕ) (p : SchemaPath) where
-  pub has-some : {g : Group} → groupAt sc t p ≡ some g → true ≡ hasGroup sc t p
+  has-some : {g : Group} → groupAt sc t p ≡ some g → true ≡ hasGroup sc t p
   unfolding hasGroup
   has-some e = rw (hasGroup, e)
 
-  pub has-none : groupAt sc t p ≡ none → false ≡ hasGroup sc t p
+  has-none : groupAt sc t p ≡ none → false ≡ hasGroup sc t p
   unfolding hasGroup
   has-none e = rw (hasGroup, e)
+
+  pub has-found : {d : Group} {l : List Group} (r : Found) → Finds d l r (groupAt sc t p) → isFound r ≡ hasGroup sc t p
+  unfolding isFound
+  has-found (At i) f = has-some (found-at f refl)
+  has-found Missing f = has-none (found-missing f refl)
 
 -- a path that has a part
 part-some : (sc : Schema) (t x : ℕ) (cs : List ℕ) {g : Group} → (x ≡ 0 → ⊥) → groupAt sc t (front (x ∷ cs)) ≡ some g → g .mode ≡ groupMode sc t (front (x ∷ cs))

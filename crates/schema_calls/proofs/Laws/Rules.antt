@@ -1,17 +1,17 @@
 -- Laws of the schema rules, test by test. Assumes nothing.
-use mathlib.Core.Bool.{Bool, true, false, not, and-eq-true-iff}
+use mathlib.Core.Bool.{Bool, true, false, not, _&&_, _||_}
 use mathlib.Core.Path.{_≡_, refl, sym, ap, _∙_}
 use Prim.Native.Nat.{ℕ, _<_}
 use native.Mathlib.Omega.{arith}
 use borrow.Author.Tests.{ltb-true}
-use lib.Dec.{ltb}
 use lib.ListN.{length, take}
 use Rattle.tables.specs.Lists.{anyOf, allOf}
 use Rattle.tables.specs.Records.{SchemaPath, Mode, sequence, choice, bag, mixed, characters, SubElement, Schema, typeRow}
 use Rattle.tables.specs.SchemaTable.{modeNumber}
-use Rattle.deck.specs.Schema.{properBeginnings, isCharacters, declaredType, groupAt, hasGroup, pathValid, groupRule, rowsMeet, beginsGroup, subElementRule}
-use Rattle.schema_calls.specs.Calls.{groupsAbove, rowsAbove}
+use Rattle.deck.specs.Schema.{properBeginnings, isCharacters, declaredType, groupAt, hasGroup, pathValid, groupRule, subElementRule}
+use Rattle.schema_calls.specs.Calls.{nameMatches, pathMatches, groupsAbove, rowsAbove, PathsClosed}
 use Rattle.schema_calls.proofs.Laws.Schemas.{groups-all}
+use Rattle.schema_calls.proofs.Laws.Closed.{equal-rule, rule-declared}
 
 -- ---- mode 4
 
@@ -70,6 +70,10 @@ unfolding pathValid rowsAbove declaredType hasGroup groupAt
 path-rows sc m t p = refl
 
 -- and all groups are above it
+has-all : (sc : Schema) (n m t : ℕ) (p : SchemaPath) → n ≡ length (sc .groups) → hasGroup (groupsAbove sc n) t p ≡ hasGroup (rowsAbove sc m) t p
+unfolding rowsAbove hasGroup groupAt
+has-all sc n m t p e = ap (λ (s : Schema). hasGroup s t p) (groups-all sc n e)
+
 path-all : (sc : Schema) (n m t : ℕ) (p : SchemaPath) → n ≡ length (sc .groups) → pathValid (groupsAbove sc n) t p ≡ pathValid (rowsAbove sc m) t p
 path-all sc n m t p e = ap (λ (s : Schema). pathValid s t p) (groups-all sc n e) ∙ path-rows sc m t p
 
@@ -90,23 +94,19 @@ module _ (sc : Schema) (m : ℕ) (r : SubElement) (n : ℕ) (all : n ≡ length 
     unfolding subElementRule
     sub-child-not h = rw (valid ∙ hs, child ∙ h)
 
-    module _ (hd : d ≡ true) {k : Bool} (ek : k ≡ anyOf (rowsMeet r) (take m (sc .subElements))) where
-      meets-above : anyOf (rowsMeet r) (rowsAbove sc m .subElements) ≡ k
-      unfolding rowsAbove
-      meets-above = sym ek
+    module _ (hd : d ≡ true) (closed : PathsClosed (rowsAbove sc m)) (part : 0 < length (r .path)) {k : Bool}
+        (ek : k ≡ (anyOf (nameMatches (r .type) (r .name)) (take m (sc .subElements)) || anyOf (pathMatches (r .type) (r .path)) (take m (sc .subElements)))) where
+      equal-above : subElementRule (rowsAbove sc m) r ≡ (not k && not (hasGroup (rowsAbove sc m) (r .type) (r .path)))
+      unfolding subElementRule rowsAbove
+      equal-above = rw (valid ∙ hs, child ∙ hd, ek) (equal-rule (rowsAbove sc m) r closed part (valid ∙ hs))
 
       pub sub-meets : k ≡ true → false ≡ subElementRule (rowsAbove sc m) r
-      unfolding subElementRule
-      sub-meets h = rw (valid ∙ hs, child ∙ hd, meets-above ∙ h)
+      sub-meets h = sym (equal-above ∙ rw h)
 
-      pub sub-begins : k ≡ false → {j : Bool} → j ≡ anyOf (beginsGroup r) (sc .groups) → not j ≡ subElementRule (rowsAbove sc m) r
-      unfolding subElementRule rowsAbove
-      sub-begins h ej = rw (valid ∙ hs, child ∙ hd, meets-above ∙ h, ej)
+      pub sub-group : k ≡ false → {j : Bool} → j ≡ hasGroup (groupsAbove sc n) (r .type) (r .path) → not j ≡ subElementRule (rowsAbove sc m) r
+      sub-group h ej = sym (equal-above ∙ rw (h, ej, has-all sc n m (r .type) (r .path) all))
 
 -- a row that the rule lets through has a declared child type
 pub child-declared : (sc : Schema) (r : SubElement) → subElementRule sc r ≡ true → r .childType < length (sc .types)
-unfolding subElementRule declaredType
-child-declared sc r h =
-    let (first, _) = and-eq-true-iff _ (not (anyOf (beginsGroup r) (sc .groups))) .0 h in
-    let (two, _) = and-eq-true-iff _ (not (anyOf (rowsMeet r) (sc .subElements))) .0 first in
-    ltb-true (r .childType) (length (sc .types)) (and-eq-true-iff (pathValid sc (r .type) (r .path)) (ltb (r .childType) (length (sc .types))) .0 two .1)
+unfolding declaredType
+child-declared sc r h = ltb-true (r .childType) (length (sc .types)) (rule-declared sc r h .1)

@@ -1,12 +1,10 @@
--- Searches that answer a place: the first entry that passes, the first among those above a place, and what the answer tells. Assumes nothing.
+-- Searches that answer a place: the first entry that passes, and what the answer tells. Assumes nothing.
 use mathlib.Core.Bool.{Bool, true}
 use mathlib.Core.List.{List}
 use mathlib.Core.Option.{Option, none, some}
 use mathlib.Core.Path.{_≡_, sym, ap, subst, _∙_}
 use Prim.Native.Nat.{ℕ, _≤_, _<_}
-use native.Mathlib.Omega.{arith}
-use lib.ListN.{length, getD, take, drop}
-use lib.Seq.{length-take-le, getD-take}
+use lib.ListN.{length, getD, drop}
 use Rattle.tables.specs.Lists.{firstOf}
 use Rattle.tables.proofs.Laws.Scans.{first-stop, first-end}
 use Rattle.schema_calls.specs.declared.calls.Found.{Found}
@@ -23,27 +21,6 @@ module _ {A : Type 0} (t : A → Bool) (d : A) (l : List A) (i : ℕ) {o : Optio
   pub finds-none : length l ≤ i → firstOf t (drop i l) ≡ o → Finds d l Missing o
   unfolding foundIn
   finds-none h k = record { is = sym (first-end t l i h) ∙ k; within = tt }
-
--- ---- the entries above place n
-
-module _ {A : Type 0} (d : A) (l : List A) (n : ℕ) (fits : n ≤ length l) where
-  pub above-within : (i : ℕ) → i < n → i < length (take n l)
-  above-within i h = rw (length-take-le n l fits) h
-
-  pub above-end : (i : ℕ) → n ≤ i → length (take n l) ≤ i
-  above-end i h = rw (length-take-le n l fits) h
-
-  -- a test of one of them
-  pub above-test : (t : A → Bool) (i : ℕ) → i < n → {b c : Bool} → b ≡ t (getD l i d) → b ≡ c → t (getD (take n l) i d) ≡ c
-  above-test t i h e k = ap t (getD-take n l i d h) ∙ sym e ∙ k
-
-  -- what is found among them is found in the list
-  pub finds-above : {o : Option A} (r : Found) → Finds d (take n l) r o → Finds d l r o
-  unfolding foundIn
-  finds-above (At i) f =
-      let h : i < n = omega (arith, length-take-le n l fits, f .within) in
-      record { is = ap some (sym (getD-take n l i d h)) ∙ f .is; within = omega arith }
-  finds-above Missing f = record { is = f .is; within = tt }
 
 -- ---- what an answer tells
 

@@ -1,17 +1,22 @@
 -- Laws of roots and of listed elements. Assumes nothing.
-use mathlib.Core.Bool.{Bool, true, false, not}
-use mathlib.Core.List.{List, []}
-use mathlib.Core.Option.{none, some}
+use mathlib.Core.Bool.{Bool, true, false, not, _&&_, and-eq-true-iff}
+use mathlib.Core.List.{List, [], _∷_}
+use mathlib.Core.Option.{none, some, Option·none-ne-some, Option·some-injective}
 use mathlib.Core.Path.{_≡_, sym, ap, _∙_}
 use Prim.Native.Nat.{ℕ, suc, _+_, _≤_, _<_}
 use native.Mathlib.Numerals.{add-one}
-use borrow.Author.Tests.{not-true, not-false, eq-eqb, ne-eqb}
+use native.Mathlib.Omega.{arith}
+use borrow.Author.Tests.{not-true, not-false, eq-eqb, ne-eqb, eqb-true}
 use lib.Dec.{eqb}
 use lib.ListN.{length, getD, drop, List·getD-eq-default}
-use Rattle.tables.specs.Lists.{allOf}
-use Rattle.tables.specs.Records.{Item, child, Tree, SubElement, Fixed, root, nameOf, typeOf, depthOf}
-use Rattle.deck.specs.Schema.{rowOfName}
-use Rattle.state_test.specs.StateTest.{rootValid, rootsValid, itemTyped, listsTyped}
+use Rattle.tables.specs.Lists.{allOf, firstOf}
+use Rattle.tables.specs.Records.{Item, child, Tree, SubElement, Schema, Fixed, root, nameOf, typeOf, depthOf}
+use Rattle.tables.specs.SchemaTable.{noSubElement}
+use Rattle.tables.proofs.Laws.Cases.{bool-case}
+use Rattle.deck.specs.Schema.{meets, allVersions, findSubElement, rowOfName}
+use Rattle.schema_calls.specs.Calls.{Finds, foundIn}
+use Rattle.schema_calls.specs.declared.calls.Found.the-variants.{At}
+use Rattle.state_test.specs.StateTest.{rootValid, rootsValid, itemTyped, listsTyped, FoundRow}
 use Rattle.tables.proofs.Laws.Scans.{drop-next, drop-end}
 
 -- ---- roots
@@ -55,6 +60,35 @@ module _ (x : Fixed) (p e : ℕ) {t n : ℕ} (ht : t ≡ typeOf x p) (hn : n ≡
   some-row {r} h a b =
       let k : rowOfName (x .schema) (typeOf x p) (nameOf x e) ≡ some r = (λ j. rowOfName (x .schema) (sym ht j) (sym hn j)) ∙ h in
       rw (itemTyped, k, a, b)
+
+-- ---- the row found last
+
+first-passes : {A : Type 0} (t : A → Bool) (l : List A) (a : A) → firstOf t l ≡ some a → t a ≡ true
+unfolding firstOf
+first-passes t [] a h = absurd (Option·none-ne-some a h)
+first-passes t (x ∷ l) a h =
+    bool-case (λ o. o ≡ some a → t a ≡ true) (t x) (λ e k. ap t (sym (Option·some-injective x a k)) ∙ e) (λ e k. first-passes t l a k) h
+
+module _ (sc : Schema) (i : ℕ) where
+  -- none at the start
+  pub none-found : length (sc .subElements) ≤ i → FoundRow sc i
+  none-found h k = absurd (omega arith)
+
+  module _ (t n : ℕ) where
+    pub found-row : rowOfName sc t n ≡ some (getD (sc .subElements) i noSubElement) → FoundRow sc i
+    unfolding rowOfName findSubElement
+    found-row e k =
+        let r = getD (sc .subElements) i noSubElement in
+        let m = first-passes (λ (r : SubElement). eqb (r .type) t && eqb (r .name) n && meets (r .mask) allVersions) (sc .subElements) r e in
+        let both = and-eq-true-iff (eqb (r .type) t && eqb (r .name) n) (meets (r .mask) allVersions) .0 m .0 in
+        let (ty, name) = and-eq-true-iff (eqb (r .type) t) (eqb (r .name) n) .0 both in
+        rw (eqb-true (r .type) t ty, eqb-true (r .name) n name) e
+
+    pub row-kept : FoundRow sc i → i < length (sc .subElements) → {ty name : ℕ} → ty ≡ getD (sc .subElements) i noSubElement .type
+        → name ≡ getD (sc .subElements) i noSubElement .name → ty ≡ t → name ≡ n → Finds noSubElement (sc .subElements) (At i) (rowOfName sc t n)
+    unfolding foundIn
+    row-kept f k a b e g =
+        record { is = sym (f k) ∙ (λ j. rowOfName sc ((sym a ∙ e) j) ((sym b ∙ g) j)); within = k }
 
 -- ---- the lists, r the answer for the list of p
 

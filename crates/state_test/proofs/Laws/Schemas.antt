@@ -1,7 +1,7 @@
 -- Laws of the schema rules row by row: each row meets its rule by the rows above it. Assumes nothing.
 use mathlib.Core.Bool.{Bool, true, false, not, true≢false}
 use mathlib.Core.List.{List, [], _∷_, _++_, append-assoc, append-nil}
-use mathlib.Core.Path.{_≡_, refl, sym, ap, _∙_}
+use mathlib.Core.Path.{_≡_, refl, sym, ap, subst, _∙_}
 use Prim.Native.Nat.{ℕ, _+_, _≤_, _<_}
 use native.Mathlib.Numerals.{add-one}
 use borrow.Author.Tests.{not-true, not-false}
@@ -11,7 +11,8 @@ use Rattle.tables.specs.Records.{SchemaPath, Group, SubElement, Schema, addGrou
 use Rattle.tables.specs.SchemaTable.{multNumber, multFrom}
 use Rattle.tables.proofs.Laws.SchemaTable.{mult-back}
 use Rattle.deck.specs.Schema.{declaredType, groupAt, hasGroup, pathValid, groupRule, subElementRule}
-use Rattle.schema_calls.specs.Calls.{groupsAbove, rowsAbove}
+use Rattle.schema_calls.specs.Calls.{groupsAbove, rowsAbove, PathsClosed}
+use Rattle.schema_calls.proofs.Laws.Closed.{closed-none, closed-group}
 use Rattle.state_test.specs.StateTest.{groupsValid, rowsValid, typesAlone, withoutRows, schemaValid}
 use Rattle.tables.proofs.Laws.Scans.{drop-next, drop-end}
 
@@ -103,6 +104,18 @@ group-rule-above sc i g = refl
 -- a G row by its fields as they are read
 pub group-is : (g : Group) {t : ℕ} {p : SchemaPath} → t ≡ g .type → p ≡ g .path → record { type = t; path = p; mode = g .mode } ≡ g
 group-is g a b = λ j. record { type = a j; path = b j; mode = g .mode }
+
+-- the paths stay closed with the G rows that meet their rule
+groups-closed : (sc : Schema) (k l : List Group) → PathsClosed (withGroups sc k) → groupsValid (withGroups sc k) l ≡ true → PathsClosed (withGroups sc (k ++ l))
+groups-closed sc k [] closed h = rw append-nil closed
+groups-closed sc k (g ∷ l) closed h =
+    let (first, rest) = valid-first groupRules (withGroups sc k) g l h in
+    rw (← append-assoc k (g ∷ []) l)
+    (groups-closed sc (k ++ (g ∷ [])) l (subst PathsClosed (with-group sc k g) (closed-group (withGroups sc k) closed refl g first)) (rw (with-group sc k g) at rest))
+
+pub closed-groups : (sc : Schema) → groupsValid (typesAlone sc) (sc .groups) ≡ true → PathsClosed (rowsAbove sc 0)
+unfolding rowsAbove
+closed-groups sc h = groups-closed sc [] (sc .groups) (closed-none (typesAlone sc) refl refl) h
 
 -- ---- S rows
 

@@ -17,10 +17,10 @@ use Rattle.tables.proofs.Laws.Cases.{bool-case}
 use Rattle.tables.proofs.Laws.Cells.{each-imp}
 use Rattle.deck.specs.Schema.{versionOf, leastFrom, leastVersion}
 use Rattle.table_test.specs.ElementsTest.{TreeIn}
-use Rattle.table_test.specs.SchemaTest.{FilesIn, TestedSchema}
+use Rattle.table_test.specs.SchemaTest.{RowIn, FilesIn, TestedSchema}
 use Rattle.table_test.specs.TablesTest.{tablesPass, TestedTables}
 use Rattle.table_test.proofs.Laws.TablesTest.{tested-tables}
-use Rattle.state_test.specs.StateTest.{schemaValid, filesDeclared, rootsValid, listsTyped, stateValid, lentTablesPass, fixedIn, stateIn}
+use Rattle.state_test.specs.StateTest.{PathFilled, schemaValid, filesDeclared, rootsValid, listsTyped, stateValid, lentTablesPass, fixedIn, stateIn}
 
 module _ (x : Fixed) (s : State) where
   pub state-stop-1 : schemaValid (x .schema) ≡ false → false ≡ stateValid x s
@@ -58,7 +58,11 @@ module _ (deck schema elements model log : List ℕ) where
   unfolding lentTablesPass
   lent-last e g = g ∙ rw (lentTablesPass, e)
 
--- the files of a schema that passes
+-- the paths of the rows of a schema that passes
+pub paths-filled : (xs : List ℕ) → TestedSchema xs → Each PathFilled (schemaOf xs .subElements)
+paths-filled xs t = each-imp RowIn PathFilled (schemaOf xs .subElements) (λ r k. k .1) (t .rows)
+
+-- its files
 pub files-low : (low : ℕ) (fs : List File) → FilesIn low fs → Each (λ (d : File). d .file < fileLimit) fs
 files-low low [] h = tt
 files-low low (f ∷ fs) h = (h .1, files-low (f .file + 1) fs (h .3))

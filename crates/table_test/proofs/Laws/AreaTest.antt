@@ -1,7 +1,7 @@
 -- The test of an area of rows: the loop that makes it, and an area that passes is the encoding of what it says. Assumes nothing.
 use mathlib.Core.Bool.{Bool, true, false, _&&_, and-eq-true-iff, and-false}
 use mathlib.Core.List.{List, [], _∷_, _++_, append-nil}
-use mathlib.Core.Path.{_≡_, refl, sym, ap, _∙_, subst}
+use mathlib.Core.Path.{_≡_, refl, sym, ap, _∙_}
 use Prim.Native.Nat.{ℕ, zero, suc, _+_, _*_, _-_, _≤_, _<_}
 use native.Mathlib.Nat.{zero-add, suc-add, suc-mul, add-sub-cancel-left, mul-le-mul-right}
 use native.Mathlib.Omega.{arith}
@@ -186,6 +186,10 @@ module _ (k : Area) (at n : ℕ) (xs : List ℕ) (fits : at + areaLimit k * area
         let u : n * w ≤ room * w = used-room in
         let e : room * w ≡ n * w + (room * w - n * w) = omega arith in
         ap (λ (i : ℕ). rowsOf w n dec (take i (drop at xs))) e ∙ rows-front w dec n (room * w - n * w) (drop at xs)
+
+    pub rows-between : rowsOf (areaWidth k) n dec (between at (at + areaLimit k * areaWidth k) xs) ≡ rowsOf (areaWidth k) n dec (drop at xs)
+    unfolding area
+    rows-between = ap (λ (i : ℕ). rowsOf (areaWidth k) n dec (take i (drop at xs))) (add-sub-cancel-left at (areaLimit k * areaWidth k)) ∙ rows-of
 
     -- rows that pass are the cells of what they say: so is the area
     module _ (enc : A → List ℕ) (wide : (a : A) → length (enc a) ≡ areaWidth k) (f : (r : List ℕ) → length r ≡ areaWidth k → rowPasses k r ≡ true → enc (dec r) ≡ r) where

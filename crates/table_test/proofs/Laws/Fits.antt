@@ -7,12 +7,12 @@ use native.Mathlib.Omega.{arith}
 use lib.ListN.{length, drop, length-set}
 use Rattle.tables.specs.Cells.{Each}
 use Rattle.tables.specs.Limits.{itemLimit}
-use Rattle.tables.specs.Lists.{insertAt, removeAt}
+use Rattle.tables.specs.Lists.{insertAt, removeRun}
 use Rattle.tables.specs.LogTable.{logOf, HoldsLog}
 use Rattle.tables.specs.ModelTable.{flat, startOf, countOf, modelOf, ItemBelow, GoodModel, HoldsModel}
-use Rattle.tables.specs.Records.{Element, FileSet, Item, child, text, Model, Entry, Log, listOf, putParent, putSet, putList, insertItem, removeItem}
+use Rattle.tables.specs.Records.{Element, FileSet, Item, child, text, Model, Entry, Log, listOf, putParent, putSet, putList, insertItem, removeItems}
 use Rattle.tables.proofs.Laws.Cells.{each-imp}
-use Rattle.tables.proofs.Laws.Lists.{each-insertAt, each-removeAt, flat-insert, flat-remove}
+use Rattle.tables.proofs.Laws.Lists.{each-insertAt, each-removeRun, flat-insert, flat-remove}
 use Rattle.table_test.specs.LogTest.{EntryIn}
 use Rattle.table_test.specs.Passing.{ItemTextIn}
 use Rattle.table_test.specs.Fits.{ModelFits, LogFits, KeepsModel}
@@ -58,15 +58,15 @@ module _ {n texts : ℕ} {xs ys : List ℕ} (f : ModelFits n texts xs) where
       (subst (Each (ItemTextIn texts)) (sym (flat-insert (m .lists) e i a count at))
       (each-insertAt (ItemTextIn texts) (flat (m .lists)) (startOf (m .lists) e + i) a (f .items) within))
 
-  pub fits-remove : (e i : ℕ) → e < countOf (modelOf xs) → i < length (listOf (modelOf xs) e) → HoldsModel ys (removeItem (modelOf xs) e i)
+  pub fits-remove : (e i k : ℕ) → e < countOf (modelOf xs) → i + k ≤ length (listOf (modelOf xs) e) → HoldsModel ys (removeItems (modelOf xs) e i k)
       → ModelFits n texts ys
-  unfolding removeItem putList
-  fits-remove e i low at h =
+  unfolding removeItems putList
+  fits-remove e i k low at h =
       let m = modelOf xs in
       let count : e < length (m .lists) = omega (arith, f .good .sized .lists) in
       held h (f .same)
-      (subst (Each (ItemTextIn texts)) (sym (flat-remove (m .lists) e i count at))
-      (each-removeAt (ItemTextIn texts) (flat (m .lists)) (startOf (m .lists) e + i) (f .items)))
+      (subst (Each (ItemTextIn texts)) (sym (flat-remove (m .lists) e i k count at))
+      (each-removeRun (ItemTextIn texts) (flat (m .lists)) (startOf (m .lists) e + i) k (f .items)))
 
 each-rest : {A : Type 0} (P : A → Type 0) (l : List A) → Each P l → Each P (drop 1 l)
 each-rest P [] h = h

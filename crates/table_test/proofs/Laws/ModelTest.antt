@@ -12,7 +12,7 @@ use lib.ListN.{length, getD, take, drop, replicate, length-replicate, length-map
 use lib.Seq.{drop-at, take-at, take-add, take-all, drop-drop, drop-cons, drop-append-add, length-take-le, getD-take, getD-drop}
 use Rattle.tables.specs.Cells.{padded, cells, rowCells, rowsOf, rowAt, Each, between}
 use Rattle.tables.specs.Limits.{elementLimit, itemLimit}
-use Rattle.tables.specs.Lists.{allOf, sum}
+use Rattle.tables.specs.Lists.{anyOf, allOf, sum}
 use Rattle.tables.specs.Records.{Item, child, text, contentItems, listOf}
 use Rattle.tables.specs.ModelTable.{parentsAt, setsAt, startsAt, itemsAt, modelSize, parentCell, cellParent, itemCell, cellItem, sums, gaps, gapsOf, flat, startOf, cut, countOf, encodeModel, modelOf, ParentBelow, ItemBelow, SizedModel, GoodModel}
 use Rattle.table_test.specs.ModelTest.{onceIn, isZero, atMost, rising, itemInRange, cellInRange, countIn, totalIn, modelShape, modelUnused, modelUsed, modelOnce, isModelTable, Shaped, TestedModel}
@@ -449,7 +449,22 @@ pub once-start : (xs : List ℕ) → OnceLeft xs (replicate elementLimit 0) 0
 unfolding modelOnce
 once-start xs = record { left = refl; size = length-replicate {A = ℕ} elementLimit 0; most = λ k. rw (getD-zeros elementLimit k) (omega arith) }
 
+few-once : (l : List Item) → length l < 2 → onceIn l ≡ true
+unfolding onceIn anyOf
+few-once [] h = refl
+few-once (a ∷ []) h = refl
+few-once (a ∷ b ∷ l) h = absurd (omega arith)
+
 module _ (xs marks : List ℕ) (e n : ℕ) (g : GoodModel xs) (o : OnceLeft xs marks e) (h : e < countOf (modelOf xs)) (l : n ≡ length (listOf (modelOf xs) e)) where
+  pub once-few : n < 2 → OnceLeft xs marks (e + 1)
+  once-few k =
+      let t : onceIn (getD (modelOf xs .lists) e []) ≡ true = few-once (listOf (modelOf xs) e) (omega arith) in
+      record {
+        left = all-more onceIn (modelOf xs .lists) e [] (omega (arith, g .sized .lists)) t ∙ o .left;
+        size = o .size;
+        most = λ i. omega (arith, o .most i);
+      }
+
   pub once-stop : (r : Bool) → r ≡ onceIn (map cellItem (between (itemsAt + getD xs (startsAt + e) 0) (itemsAt + getD xs (startsAt + e) 0 + n) xs))
       → r ≡ false → false ≡ modelOnce (modelOf xs)
   once-stop r c f =

@@ -1,25 +1,28 @@
 -- The table of a schema whose rows are in their ranges passes. Assumes nothing.
 use mathlib.Core.Bool.{Bool, true, false, not, _||_}
-use mathlib.Core.List.{List, [], _∷_, _++_, map, append-nil}
-use mathlib.Core.Path.{_≡_, refl, sym, ap, _∙_}
-use Prim.Native.Nat.{ℕ, zero, suc, _+_, _*_, _≤_, _<_}
+use mathlib.Core.List.{List, [], _∷_, _++_, map}
+use mathlib.Core.Path.{_≡_, refl, ap, _∙_}
+use Prim.Native.Nat.{ℕ, zero, suc, _+_, _≤_, _<_}
 use native.Mathlib.Numerals.{add-one}
 use native.Mathlib.Omega.{arith}
 use borrow.Author.Tests.{eq-eqb, ne-eqb, le-leb, lt-ltb}
 use lib.Dec.{eqb}
-use lib.ListN.{length, drop}
-use Rattle.tables.specs.Cells.{Each, cells, between}
-use Rattle.tables.specs.Limits.{typeLimit, groupLimit, rowLimit, fileLimit, versionLimit, pathLimit, nameLimit, partLimit, maskLimit}
+use lib.ListN.{length}
+use Rattle.tables.specs.Cells.{Each, between}
+use Rattle.tables.specs.declared.index.Index.{Index}
+use Rattle.tables.specs.declared.index.Index.the-variants as index
+use Rattle.tables.specs.Limits.{typeLimit, fileLimit, versionLimit, pathLimit, nameLimit, partLimit, maskLimit}
 use Rattle.tables.specs.Paths.{pathCells}
 use Rattle.tables.specs.Records.{SchemaPath, Mode, sequence, choice, bag, mixed, characters, Mult, atMostOne, one, any, TypeRow, Group, SubElement, File, Schema}
-use Rattle.tables.specs.SchemaTable.{schemaSize, typesAt, groupsAt, rowsAt, filesAt, modeNumber, multNumber, boolNumber, partCell, typeCells, groupCells, subElementCells, fileCells, encodeSchema, RowFits, SizedSchema, fileWidth}
+use Rattle.tables.specs.SchemaTable.{schemaSize, typesAt, groupsAt, rowsAt, filesAt, groupIndexAt, indexOf, modeNumber, multNumber, boolNumber, partCell, typeCells, groupCells, subElementCells, fileCells, encodeSchema, RowFits, SizedSchema, fileWidth}
 use Rattle.table_test.specs.RowTests.{pathPasses}
 use Rattle.table_test.specs.AreaTest.{rowPasses, rowsIn}
-use Rattle.table_test.specs.SchemaTest.{filesAscend, isSchemaTable, TypeIn, FilesIn}
+use Rattle.table_test.specs.SchemaTest.{filesAscend, indexPasses, isSchemaTable, TypeIn, FilesIn}
 use Rattle.table_test.specs.Passing.{PartsIn, GroupPassing, RowPassing, SchemaIn}
 use Rattle.table_test.specs.declared.area_test.Area.the-variants.{Types, Groups, SubElements, Files}
-use Rattle.tables.proofs.Laws.Cells.{length-cells, each-imp, each-both}
-use Rattle.tables.proofs.Laws.SchemaTable.{wide-type, wide-group, wide-row, wide-file, schema-size, groupArea, rowArea, fileArea, from-types, from-groups, from-rows, from-files}
+use Rattle.tables.proofs.Laws.Lists.{same-itself}
+use Rattle.tables.proofs.Laws.Cells.{each-imp, each-both}
+use Rattle.tables.proofs.Laws.SchemaTable.{wide-type, wide-group, wide-row, wide-file, schema-size, schema-back, index-part, groupArea, rowArea, fileArea, indexArea, from-types, from-groups, from-rows, from-files}
 use Rattle.table_test.proofs.Laws.PassingRows.{rows-are, cells-between, area-passes}
 
 -- ---- numbers
@@ -140,6 +143,14 @@ files-ascend low [] h = refl
 files-ascend low (f ∷ []) h = refl
 files-ascend low (f ∷ g ∷ fs) h = rw (lt-ltb (f .file) (g .file) (rw add-one at (h .3 .0))) (files-ascend (f .file + 1) (g ∷ fs) (h .3))
 
+-- ---- indexes
+
+index-passes : (sc : Schema) → SizedSchema sc → (x : Index) → indexPasses x (encodeSchema sc) ≡ true
+unfolding indexPasses
+index-passes sc s index.Groups = rw (schema-back sc s, index-part sc s index.Groups) (same-itself (indexOf sc index.Groups))
+index-passes sc s index.Names = rw (schema-back sc s, index-part sc s index.Names) (same-itself (indexOf sc index.Names))
+index-passes sc s index.Paths = rw (schema-back sc s, index-part sc s index.Paths) (same-itself (indexOf sc index.Paths))
+
 -- ---- the table
 
 pub schema-passes : (sc : Schema) → SchemaIn sc → isSchemaTable (encodeSchema sc) ≡ true
@@ -148,22 +159,25 @@ schema-passes sc h =
     let s = h .sized in
     let xs : List ℕ = encodeSchema sc in
     let rows = each-both RowFits RowPassing (sc .subElements) (s .rowPaths) (h .rows) in
-    let files : filesAscend (rowsIn fileWidth (length (sc .files)) (between filesAt schemaSize xs)) ≡ true =
-    ap (λ (l : List ℕ). filesAscend (rowsIn fileWidth (length (sc .files)) l)) (cells-between Files fileCells wide-file (sc .files) (s .fileCount) xs [] filesAt (from-files sc s))
+    let files : filesAscend (rowsIn fileWidth (length (sc .files)) (between filesAt groupIndexAt xs)) ≡ true =
+    ap (λ (l : List ℕ). filesAscend (rowsIn fileWidth (length (sc .files)) l)) (cells-between Files fileCells wide-file (sc .files) (s .fileCount) xs (indexArea sc) filesAt (from-files sc s))
     ∙ ap filesAscend (rows-are fileWidth fileCells wide-file fileLimit (sc .files))
     ∙ files-ascend 0 (sc .files) (h .files)
     in
     rw (
       eq-eqb (length xs) schemaSize (schema-size sc s),
-      area-passes Files fileCells wide-file (sc .files) (s .fileCount) xs [] filesAt (from-files sc s) (length (sc .files)) refl (files-pass 0 (sc .files) (h .files)),
-      area-passes Types typeCells wide-type (sc .types) (s .typeCount) xs (groupArea sc ++ (rowArea sc ++ fileArea sc)) typesAt (from-types sc s)
-          (length (sc .types)) refl
-          (each-imp TypeIn (λ (r : TypeRow). rowPasses Types (typeCells r) ≡ true) (sc .types) type-passes (h .types)),
-      area-passes Groups groupCells wide-group (sc .groups) (s .groupCount) xs (rowArea sc ++ fileArea sc) groupsAt (from-groups sc s)
+      area-passes Files fileCells wide-file (sc .files) (s .fileCount) xs (indexArea sc) filesAt (from-files sc s) (length (sc .files)) refl (files-pass 0 (sc .files) (h .files)),
+      area-passes Groups groupCells wide-group (sc .groups) (s .groupCount) xs (rowArea sc ++ (fileArea sc ++ indexArea sc)) groupsAt (from-groups sc s)
           (length (sc .groups)) refl
           (each-imp GroupPassing (λ (g : Group). rowPasses Groups (groupCells g) ≡ true) (sc .groups) group-passes (h .groups)),
-      area-passes SubElements subElementCells wide-row (sc .subElements) (s .rowCount) xs (fileArea sc) rowsAt (from-rows sc s)
+      area-passes SubElements subElementCells wide-row (sc .subElements) (s .rowCount) xs (fileArea sc ++ indexArea sc) rowsAt (from-rows sc s)
           (length (sc .subElements)) refl
           (each-imp (λ (r : SubElement). RowFits r × RowPassing r) (λ (r : SubElement). rowPasses SubElements (subElementCells r) ≡ true) (sc .subElements) row-passes rows),
+      area-passes Types typeCells wide-type (sc .types) (s .typeCount) xs (groupArea sc ++ (rowArea sc ++ (fileArea sc ++ indexArea sc))) typesAt (from-types sc s)
+          (length (sc .types)) refl
+          (each-imp TypeIn (λ (r : TypeRow). rowPasses Types (typeCells r) ≡ true) (sc .types) type-passes (h .types)),
       files,
+      index-passes sc s index.Groups,
+      index-passes sc s index.Names,
+      index-passes sc s index.Paths,
     )

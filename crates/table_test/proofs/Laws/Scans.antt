@@ -24,7 +24,7 @@ or-zero : (a b : ℕ) → eqb (bitOr a b) 0 ≡ (eqb a 0 && eqb b 0)
 or-zero zero b = refl
 or-zero (suc a) b = rw (ne-eqb (suc a) 0 (λ e. absurd (omega (arith, e)))) (ne-eqb (bitOr (suc a) b) 0 (λ e. absurd (omega (arith, e, or-add-and (suc a) b, and-le-r (suc a) b))))
 
-and-all : (a b c : Bool) → (a && b && c) ≡ (a && elim b [ true ↦ c | false ↦ false ])
+pub and-all : (a b c : Bool) → (a && b && c) ≡ (a && elim b [ true ↦ c | false ↦ false ])
 and-all true true c = refl
 and-all true false c = refl
 and-all false b c = refl

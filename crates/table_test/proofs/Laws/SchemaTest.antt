@@ -1,6 +1,6 @@
 -- The test of a schema table: the loop over its files, and a table that passes is the encoding of what it says. Assumes nothing.
 use mathlib.Core.Bool.{true, false, _&&_, and-eq-true-iff}
-use mathlib.Core.List.{List, [], _∷_, _++_, append-nil}
+use mathlib.Core.List.{List, [], _∷_, _++_}
 use mathlib.Core.Path.{_≡_, refl, sym, ap, _∙_, subst}
 use Prim.Native.Nat.{ℕ, zero, suc, _+_, _*_, _≤_, _<_}
 use native.Mathlib.Nat.{add-zero}
@@ -8,23 +8,24 @@ use native.Mathlib.Numerals.{add-one}
 use native.Mathlib.Omega.{arith}
 use borrow.Author.Tests.{eqb-true, leb-true, ltb-true, le-ltb, lt-ltb}
 use lib.Dec.{ltb}
-use lib.ListN.{length, getD, take, drop, length-drop, drop-of-length-le}
-use lib.Seq.{take-all, drop-drop, drop-cons, getD-take, getD-drop}
+use lib.ListN.{length, getD, take, drop, length-drop}
+use lib.Seq.{drop-cons, getD-take, getD-drop}
 use Rattle.tables.specs.Cells.{Each, cells, rowsOf, between}
 use Rattle.tables.specs.Limits.{typeLimit, groupLimit, rowLimit, fileLimit, versionLimit, pathLimit, nameLimit, maskLimit}
 use Rattle.tables.specs.Lists.{allOf}
 use Rattle.tables.specs.Paths.{front, pathCells}
 use Rattle.tables.specs.Records.{Group, SubElement}
-use Rattle.tables.specs.SchemaTable.{schemaSize, typesAt, groupsAt, rowsAt, filesAt, typesArea, groupsArea, rowsArea, boolNumber, boolFrom, typeCells, cellsType, groupCells, cellsGroup, subElementCells, cellsSubElement, fileCells, cellsFile, encodeSchema, schemaOf, GroupFits, RowFits, SizedSchema, filesArea}
+use Rattle.tables.specs.SchemaTable.{schemaSize, typesAt, groupsAt, rowsAt, filesAt, groupIndexAt, boolNumber, boolFrom, typeCells, cellsType, groupCells, cellsGroup, subElementCells, cellsSubElement, fileCells, cellsFile, encodeSchema, schemaOf, GroupFits, RowFits, SizedSchema}
 use Rattle.tables.proofs.Laws.Scans.{all-head, all-tail}
 use Rattle.table_test.specs.RowTests.{pathTests, pathPasses}
 use Rattle.table_test.specs.AreaTest.{rowPasses, rowsIn}
 use Rattle.table_test.specs.SchemaTest.{filesAscend, schemaTests, isSchemaTable, TypeIn, GroupIn, RowIn, FilesIn, TestedSchema}
 use Rattle.table_test.specs.declared.area_test.Area.the-variants.{Types, Groups, SubElements, Files}
 use Rattle.tables.proofs.Laws.Cells.{length-rowsOf}
-use Rattle.tables.proofs.Laws.SchemaTable.{length-front, wide-type, wide-group, wide-row, wide-file, group-cells, row-cells, type-cells}
+use Rattle.tables.proofs.Laws.SchemaTable.{length-front, with-indexes, schema-cells, wide-type, wide-group, wide-row, wide-file, group-cells, row-cells, type-cells}
 use Rattle.table_test.proofs.Laws.RowsTest.{every-at, cells-from, row-is}
-use Rattle.table_test.proofs.Laws.AreaTest.{row-at, row-count, row-tested, area-parts, area-again, area-last, area-each}
+use Rattle.table_test.proofs.Laws.AreaTest.{row-at, row-count, row-tested, rows-between, area-parts, area-again, area-each}
+use Rattle.table_test.proofs.Laws.IndexTest.{schema-read, indexes}
 
 -- ---- the loop over the files
 
@@ -160,17 +161,6 @@ files-in (suc (suc n)) low s p a h =
 
 -- ---- a table that passes
 
--- what it says, each area from its place
-schema-read : (xs : List ℕ) → schemaOf xs
-    ≡ record {
-      types = rowsOf 3 (getD xs 0 0) cellsType (drop typesAt xs);
-      groups = rowsOf 6 (getD xs 1 0) cellsGroup (drop groupsAt xs);
-      subElements = rowsOf 9 (getD xs 2 0) cellsSubElement (drop rowsAt xs);
-      files = rowsOf 2 (getD xs 3 0) cellsFile (drop filesAt xs);
-    }
-unfolding schemaOf
-schema-read xs = rw (drop-drop typesArea typesAt xs, drop-drop groupsArea groupsAt xs, drop-drop rowsArea rowsAt xs)
-
 module _ (xs : List ℕ) (h : isSchemaTable xs ≡ true) where
   tested : (i : ℕ) → getD (schemaTests xs) i true ≡ true
   unfolding isSchemaTable
@@ -180,50 +170,52 @@ module _ (xs : List ℕ) (h : isSchemaTable xs ≡ true) where
   schema-length = eqb-true (length xs) schemaSize (tested 0)
 
   groups-each : (P : Group → Type 0) → ((r : List ℕ) → length r ≡ 6 → rowPasses Groups r ≡ true → P (cellsGroup r)) → Each P (schemaOf xs .groups)
-  groups-each P f = rw (schema-read xs) (area-each Groups groupsAt (getD xs 1 0) xs (omega (arith, schema-length)) (tested 3) cellsGroup P f)
+  groups-each P f = rw (schema-read xs) (area-each Groups groupsAt (getD xs 1 0) xs (omega (arith, schema-length)) (tested 2) cellsGroup P f)
 
   rows-each : (P : SubElement → Type 0) → ((r : List ℕ) → length r ≡ 9 → rowPasses SubElements r ≡ true → P (cellsSubElement r)) → Each P (schemaOf xs .subElements)
-  rows-each P f = rw (schema-read xs) (area-each SubElements rowsAt (getD xs 2 0) xs (omega (arith, schema-length)) (tested 4) cellsSubElement P f)
+  rows-each P f = rw (schema-read xs) (area-each SubElements rowsAt (getD xs 2 0) xs (omega (arith, schema-length)) (tested 3) cellsSubElement P f)
 
   types-each : Each TypeIn (schemaOf xs .types)
   types-each =
       rw (schema-read xs)
-      (area-each Types typesAt (getD xs 0 0) xs (omega (arith, schema-length)) (tested 2) cellsType TypeIn (λ r e p. ltb-true (getD r 2 0) maskLimit (row-tested Types r p 2)))
+      (area-each Types typesAt (getD xs 0 0) xs (omega (arith, schema-length)) (tested 4) cellsType TypeIn (λ r e p. ltb-true (getD r 2 0) maskLimit (row-tested Types r p 2)))
 
   files-each : FilesIn 0 (schemaOf xs .files)
   files-each =
       let n = getD xs 3 0 in
-      let area : List ℕ = between filesAt schemaSize xs in
-      let e : area ≡ drop filesAt xs = take-all filesArea (drop filesAt xs) (rw (length-drop filesAt xs) (omega (arith, schema-length))) in
+      let area : List ℕ = between filesAt groupIndexAt xs in
+      let e : rowsOf 2 n cellsFile area ≡ rowsOf 2 n cellsFile (drop filesAt xs) = rows-between Files filesAt n xs (omega (arith, schema-length)) (tested 1) cellsFile in
       rw (schema-read xs, ← e) (files-in n 0 area (area-parts Files n area (tested 1) .1) (tested 5) (omega arith))
 
-  -- the areas, one behind the other
+  -- the areas, one behind the other, and the indexes
   areas : drop typesAt xs
       ≡ cells 3 typeLimit typeCells (rowsOf 3 (getD xs 0 0) cellsType (drop typesAt xs))
       ++ (cells 6 groupLimit groupCells (rowsOf 6 (getD xs 1 0) cellsGroup (drop groupsAt xs))
       ++ (cells 9 rowLimit subElementCells (rowsOf 9 (getD xs 2 0) cellsSubElement (drop rowsAt xs))
-      ++ cells 2 fileLimit fileCells (rowsOf 2 (getD xs 3 0) cellsFile (drop filesAt xs))))
+      ++ (cells 2 fileLimit fileCells (rowsOf 2 (getD xs 3 0) cellsFile (drop filesAt xs)) ++ drop groupIndexAt xs)))
   areas =
-      area-again Types typesAt (getD xs 0 0) xs (omega (arith, schema-length)) (tested 2) cellsType typeCells wide-type type-again
-      (area-again Groups groupsAt (getD xs 1 0) xs (omega (arith, schema-length)) (tested 3) cellsGroup groupCells wide-group group-again
-      (area-again SubElements rowsAt (getD xs 2 0) xs (omega (arith, schema-length)) (tested 4) cellsSubElement subElementCells wide-row row-again
-      (area-last Files filesAt (getD xs 3 0) xs (omega (arith, schema-length)) (tested 1) cellsFile fileCells wide-file (λ r e p. sym (row-is r 2 e)) schema-length)))
+      area-again Types typesAt (getD xs 0 0) xs (omega (arith, schema-length)) (tested 4) cellsType typeCells wide-type type-again
+      (area-again Groups groupsAt (getD xs 1 0) xs (omega (arith, schema-length)) (tested 2) cellsGroup groupCells wide-group group-again
+      (area-again SubElements rowsAt (getD xs 2 0) xs (omega (arith, schema-length)) (tested 3) cellsSubElement subElementCells wide-row row-again
+      (area-again Files filesAt (getD xs 3 0) xs (omega (arith, schema-length)) (tested 1) cellsFile fileCells wide-file (λ r e p. sym (row-is r 2 e)) refl)))
 
-  raw : xs ≡ encodeSchema (schemaOf xs)
-  unfolding encodeSchema
-  raw =
+  rows-raw : xs ≡ with-indexes (schemaOf xs) (drop groupIndexAt xs)
+  rows-raw =
       let a = length-rowsOf 3 typeCells wide-type cellsType (getD xs 0 0) (drop typesAt xs) in
       let b = length-rowsOf 6 groupCells wide-group cellsGroup (getD xs 1 0) (drop groupsAt xs) in
       let c = length-rowsOf 9 subElementCells wide-row cellsSubElement (getD xs 2 0) (drop rowsAt xs) in
       let d = length-rowsOf 2 fileCells wide-file cellsFile (getD xs 3 0) (drop filesAt xs) in
       rw (schema-read xs, a, b, c, d, ← areas) (cells-from xs 0 4 (omega (arith, schema-length)))
 
+  raw : xs ≡ encodeSchema (schemaOf xs)
+  raw = rows-raw ∙ ap (with-indexes (schemaOf xs)) (indexes xs schema-length (tested 6)) ∙ sym (schema-cells (schemaOf xs))
+
   sized : SizedSchema (schemaOf xs)
   sized =
-      let few-types = area-parts Types (getD xs 0 0) (between typesAt groupsAt xs) (tested 2) .0 in
-      let few-groups = area-parts Groups (getD xs 1 0) (between groupsAt rowsAt xs) (tested 3) .0 in
-      let few-rows = area-parts SubElements (getD xs 2 0) (between rowsAt filesAt xs) (tested 4) .0 in
-      let few-files = area-parts Files (getD xs 3 0) (between filesAt schemaSize xs) (tested 1) .0 in
+      let few-types = area-parts Types (getD xs 0 0) (between typesAt groupsAt xs) (tested 4) .0 in
+      let few-groups = area-parts Groups (getD xs 1 0) (between groupsAt rowsAt xs) (tested 2) .0 in
+      let few-rows = area-parts SubElements (getD xs 2 0) (between rowsAt filesAt xs) (tested 3) .0 in
+      let few-files = area-parts Files (getD xs 3 0) (between filesAt groupIndexAt xs) (tested 1) .0 in
       record {
         typeCount = rw (schema-read xs, length-rowsOf 3 typeCells wide-type cellsType (getD xs 0 0) (drop typesAt xs)) few-types;
         groupCount = rw (schema-read xs, length-rowsOf 6 groupCells wide-group cellsGroup (getD xs 1 0) (drop groupsAt xs)) few-groups;

@@ -132,12 +132,13 @@ pub take-padded : (room : ℕ) (xs ys : List ℕ) → take (length xs) (padded r
 unfolding padded
 take-padded room xs ys = rw (append-assoc xs (replicate (room - length xs) 0) ys) (take-at xs _ (length xs) refl)
 
--- one zero more or less at the list's end
-pub padded-more : (room : ℕ) (xs : List ℕ) → length xs < room → padded room xs ≡ padded room (xs ++ (0 ∷ []))
+-- k zeros more or less at the list's end
+pub padded-more : (room : ℕ) (xs : List ℕ) (k : ℕ) → length xs + k ≤ room → padded room xs ≡ padded room (xs ++ replicate k 0)
 unfolding padded
-padded-more room xs h =
-    let e : room - length xs ≡ suc (room - (length xs + 1)) = omega arith in
-    rw (length-append xs (0 ∷ []), append-assoc xs (0 ∷ []) (replicate (room - (length xs + 1)) 0), e)
+padded-more room xs k h =
+    let n = room - (length xs + k) in
+    let e : room - length xs ≡ k + n = omega arith in
+    rw (length-append xs (replicate k 0), length-replicate {A = ℕ} k 0, append-assoc xs (replicate k 0) (replicate n 0), e) (ap (λ (r : List ℕ). xs ++ r) (sym (replicate-append-replicate k n 0)))
 
 -- a lent part that is the list, between p and r, and what comes back
 pub mid-padded : (p xs r : List ℕ) (room a k : ℕ) → length p ≡ a → length xs ≡ k → midOf a k (p ++ (padded room xs ++ r)) ≡ xs

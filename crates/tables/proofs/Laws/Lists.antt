@@ -1,4 +1,5 @@
 -- Laws of lists: an entry inserted and removed, lists one behind the other, and changes of a part in place. Assumes nothing.
+use mathlib.Core.Bool.{Bool, true, false≢true}
 use mathlib.Core.Path.{_≡_, refl, sym, ap, _∙_, subst}
 use mathlib.Core.Logic.{_≢_}
 use mathlib.Core.List.{List, [], _∷_, _++_, map, append-assoc, append-nil}
@@ -6,11 +7,15 @@ use Prim.Native.Nat.{ℕ, zero, suc, _+_, _-_, _≤_, _<_}
 use native.Mathlib.Nat.{zero-add, suc-add, add-suc, le-of-suc-le-suc, not-suc-le-zero}
 use native.Mathlib.Numerals.{add-one}
 use native.Mathlib.Omega.{arith}
-use lib.ListN.{length, set, getD, take, drop, replicate, length-append, length-map, length-set, List·getD-append}
-use lib.Seq.{take-at, drop-at, drop-length}
+use borrow.Author.Tests.{eqb-true, eq-eqb}
+use borrow.Rule.Slice.PartMut.{midOf, putMid}
+use lib.Dec.{eqb}
+use lib.ListN.{length, set, getD, take, drop, replicate, length-append, length-map, length-set, length-drop, length-replicate, drop-of-length-le, List·getD-append}
+use lib.Seq.{take-at, drop-at, length-take-le, take-length, drop-length, drop-cons, drop-drop, drop-append-le}
 use Rattle.tables.specs.Cells.{Each}
-use Rattle.tables.specs.Lists.{insertAt, removeAt, sum}
+use Rattle.tables.specs.Lists.{insertAt, removeAt, removeRun, sum, sameList}
 use Rattle.tables.specs.ModelTable.{flat, startOf, cut, shiftIn, shiftOut, onFrom}
+use Rattle.tables.proofs.Laws.Cases.{bool-case}
 use Rattle.tables.proofs.Laws.Cells.{getD-behind}
 
 -- ---- an entry inserted, an entry removed
@@ -22,11 +27,13 @@ module _ {A : Type 0} where
   length-insertAt [] (suc i) a = refl
   length-insertAt (x ∷ l) (suc i) a = ap suc (length-insertAt l i a)
 
-  pub length-removeAt : (l : List A) (i : ℕ) → i < length l → suc (length (removeAt l i)) ≡ length l
-  unfolding removeAt
-  length-removeAt [] i h = absurd (not-suc-le-zero h)
-  length-removeAt (x ∷ l) zero h = refl
-  length-removeAt (x ∷ l) (suc i) h = ap suc (length-removeAt l i (le-of-suc-le-suc h))
+  pub length-removeRun : (l : List A) (i k : ℕ) → i + k ≤ length l → length (removeRun l i k) + k ≡ length l
+  unfolding removeRun
+  length-removeRun l zero k h = omega (arith, length-drop k l)
+  length-removeRun [] (suc i) k h = absurd (not-suc-le-zero {n = i + k} (omega arith))
+  length-removeRun (x ∷ l) (suc i) k h =
+      let r = length-removeRun l i k (omega arith) in
+      omega arith
 
   -- inserted and removed again
   pub removeAt-insertAt : (l : List A) (i : ℕ) (a : A) → i ≤ length l → removeAt (insertAt l i a) i ≡ l
@@ -59,16 +66,32 @@ module _ {A : Type 0} where
   insertAt-behind [] m i a = rw (zero-add i)
   insertAt-behind (x ∷ l) m i a = rw (suc-add (length l) i) (ap (λ (r : List A). x ∷ r) (insertAt-behind l m i a))
 
-  pub removeAt-left : (l m : List A) (i : ℕ) → i < length l → removeAt (l ++ m) i ≡ removeAt l i ++ m
-  unfolding removeAt
-  removeAt-left [] m i h = absurd (not-suc-le-zero h)
-  removeAt-left (x ∷ l) m zero h = refl
-  removeAt-left (x ∷ l) m (suc i) h = ap (λ (r : List A). x ∷ r) (removeAt-left l m i (le-of-suc-le-suc h))
+  pub removeRun-left : (l m : List A) (i k : ℕ) → i + k ≤ length l → removeRun (l ++ m) i k ≡ removeRun l i k ++ m
+  unfolding removeRun
+  removeRun-left l m zero k h = drop-append-le k l m (omega arith)
+  removeRun-left [] m (suc i) k h = absurd (not-suc-le-zero {n = i + k} (omega arith))
+  removeRun-left (x ∷ l) m (suc i) k h = ap (λ (r : List A). x ∷ r) (removeRun-left l m i k (omega arith))
 
-  pub removeAt-behind : (l m : List A) (i : ℕ) → removeAt (l ++ m) (length l + i) ≡ l ++ removeAt m i
-  unfolding removeAt
-  removeAt-behind [] m i = rw (zero-add i)
-  removeAt-behind (x ∷ l) m i = rw (suc-add (length l) i) (ap (λ (r : List A). x ∷ r) (removeAt-behind l m i))
+  pub removeRun-behind : (l m : List A) (i k : ℕ) → removeRun (l ++ m) (length l + i) k ≡ l ++ removeRun m i k
+  unfolding removeRun
+  removeRun-behind [] m i k = rw (zero-add i)
+  removeRun-behind (x ∷ l) m i k = rw (suc-add (length l) i) (ap (λ (r : List A). x ∷ r) (removeRun-behind l m i k))
+
+  -- before the place the list is as it was
+  pub getD-removeRun : (l : List A) (i k j : ℕ) (d : A) → j < i → getD (removeRun l i k) j d ≡ getD l j d
+  unfolding removeRun
+  getD-removeRun l zero k j d h = absurd (not-suc-le-zero h)
+  getD-removeRun [] (suc i) k j d h = refl
+  getD-removeRun (x ∷ l) (suc i) k zero d h = refl
+  getD-removeRun (x ∷ l) (suc i) k (suc j) d h = getD-removeRun l i k j d (le-of-suc-le-suc h)
+
+  -- one more, right before them
+  pub removeRun-more : (l : List A) (i k : ℕ) → removeAt (removeRun l (suc i) k) i ≡ removeRun l i (suc k)
+  unfolding removeRun removeAt
+  removeRun-more [] zero k = refl
+  removeRun-more [] (suc i) k = refl
+  removeRun-more (x ∷ l) zero k = refl
+  removeRun-more (x ∷ l) (suc i) k = ap (λ (r : List A). x ∷ r) (removeRun-more l i k)
 
   pub each-insertAt : (P : A → Type 0) (l : List A) (i : ℕ) (a : A) → Each P l → P a → Each P (insertAt l i a)
   unfolding insertAt
@@ -76,11 +99,13 @@ module _ {A : Type 0} where
   each-insertAt P [] (suc i) a h p = (p, tt)
   each-insertAt P (x ∷ l) (suc i) a h p = (h .0, each-insertAt P l i a (h .1) p)
 
-  pub each-removeAt : (P : A → Type 0) (l : List A) (i : ℕ) → Each P l → Each P (removeAt l i)
-  unfolding removeAt
-  each-removeAt P [] i h = tt
-  each-removeAt P (x ∷ l) zero h = h .1
-  each-removeAt P (x ∷ l) (suc i) h = (h .0, each-removeAt P l i (h .1))
+  pub each-removeRun : (P : A → Type 0) (l : List A) (i k : ℕ) → Each P l → Each P (removeRun l i k)
+  unfolding removeRun
+  each-removeRun P l zero zero h = h
+  each-removeRun P [] zero (suc k) h = tt
+  each-removeRun P (x ∷ l) zero (suc k) h = each-removeRun P l zero k (h .1)
+  each-removeRun P [] (suc i) k h = tt
+  each-removeRun P (x ∷ l) (suc i) k h = (h .0, each-removeRun P l i k (h .1))
 
 module _ {A B : Type 0} (f : A → B) where
   pub map-set : (l : List A) (i : ℕ) (a : A) → map f (set l i a) ≡ set (map f l) i (f a)
@@ -94,11 +119,13 @@ module _ {A B : Type 0} (f : A → B) where
   map-insertAt [] (suc i) a = refl
   map-insertAt (x ∷ l) (suc i) a = ap (λ (r : List B). f x ∷ r) (map-insertAt l i a)
 
-  pub map-removeAt : (l : List A) (i : ℕ) → map f (removeAt l i) ≡ removeAt (map f l) i
-  unfolding removeAt
-  map-removeAt [] i = refl
-  map-removeAt (x ∷ l) zero = refl
-  map-removeAt (x ∷ l) (suc i) = ap (λ (r : List B). f x ∷ r) (map-removeAt l i)
+  pub map-removeRun : (l : List A) (i k : ℕ) → map f (removeRun l i k) ≡ removeRun (map f l) i k
+  unfolding removeRun
+  map-removeRun l zero zero = refl
+  map-removeRun [] zero (suc k) = refl
+  map-removeRun (x ∷ l) zero (suc k) = map-removeRun l zero k
+  map-removeRun [] (suc i) k = refl
+  map-removeRun (x ∷ l) (suc i) k = ap (λ (r : List B). f x ∷ r) (map-removeRun l i k)
 
   pub map-then : (l m : List A) → map f (l ++ m) ≡ map f l ++ map f m
   map-then [] m = refl
@@ -131,14 +158,14 @@ module _ {A : Type 0} where
       let z : length l + startOf ls e + i ≡ length l + (startOf ls e + i) = omega arith in
       rw (flat-insert ls e i a (le-of-suc-le-suc h) k, z) (sym (insertAt-behind l (flat ls) (startOf ls e + i) a))
 
-  pub flat-remove : (ls : List (List A)) (e i : ℕ) → e < length ls → i < length (getD ls e [])
-      → flat (set ls e (removeAt (getD ls e []) i)) ≡ removeAt (flat ls) (startOf ls e + i)
+  pub flat-remove : (ls : List (List A)) (e i k : ℕ) → e < length ls → i + k ≤ length (getD ls e [])
+      → flat (set ls e (removeRun (getD ls e []) i k)) ≡ removeRun (flat ls) (startOf ls e + i) k
   unfolding flat startOf
-  flat-remove [] e i h k = absurd (not-suc-le-zero h)
-  flat-remove (l ∷ ls) zero i h k = rw (zero-add i) (sym (removeAt-left l (flat ls) i k))
-  flat-remove (l ∷ ls) (suc e) i h k =
+  flat-remove [] e i k h b = absurd (not-suc-le-zero h)
+  flat-remove (l ∷ ls) zero i k h b = rw (zero-add i) (sym (removeRun-left l (flat ls) i k b))
+  flat-remove (l ∷ ls) (suc e) i k h b =
       let z : length l + startOf ls e + i ≡ length l + (startOf ls e + i) = omega arith in
-      rw (flat-remove ls e i (le-of-suc-le-suc h) k, z) (sym (removeAt-behind l (flat ls) (startOf ls e + i)))
+      rw (flat-remove ls e i k (le-of-suc-le-suc h) b, z) (sym (removeRun-behind l (flat ls) (startOf ls e + i) k))
 
   pub getD-flat : (ls : List (List A)) (e i : ℕ) (d : A) → i < length (getD ls e [])
       → getD (flat ls) (startOf ls e + i) d ≡ getD (getD ls e []) i d
@@ -178,20 +205,53 @@ module _ {A : Type 0} where
 
 -- ---- changes of a part in place: what is left, done to the present list, is the whole
 
-shiftIn-turn-suc : (s : List ℕ) (j v : ℕ) → j < length s → shiftIn (set s j v) (suc j) (getD s j 0) ≡ shiftIn s j v
-unfolding shiftIn
-shiftIn-turn-suc [] j v h = absurd (not-suc-le-zero h)
-shiftIn-turn-suc (x ∷ s) zero v h = refl
-shiftIn-turn-suc (x ∷ s) (suc j) v h = ap (λ (r : List ℕ). x ∷ r) (shiftIn-turn-suc s j v (le-of-suc-le-suc h))
+-- a part that is all
+whole : (f : List ℕ → List ℕ) (s : List ℕ) (k : ℕ) → k ≡ length s → f (take k s) ++ drop k s ≡ f s
+whole f s k h = rw (h, take-length s, drop-length s) (append-nil (f s))
 
-pub shiftIn-turn : (s : List ℕ) (j v : ℕ) → j < length s → shiftIn (set s j v) (j + 1) (getD s j 0) ≡ shiftIn s j v
-shiftIn-turn s j v h = rw (add-one j) (shiftIn-turn-suc s j v h)
+-- the value in front, those up to a place moved up by one; that one falls out
+pub shiftUp : List ℕ → ℕ → ℕ → List ℕ
+shiftUp [] j v = []
+shiftUp (x ∷ s) zero v = v ∷ s
+shiftUp (x ∷ s) (suc j) v = v ∷ shiftUp s j x
 
-pub shiftIn-past : (s : List ℕ) (j v : ℕ) → length s ≤ j → shiftIn s j v ≡ s
+pub shiftUp-all : (s : List ℕ) (j v : ℕ) → j + 1 ≡ length s → shiftUp s j v ≡ shiftIn s 0 v
+unfolding shiftIn shiftUp
+shiftUp-all [] j v h = refl
+shiftUp-all (x ∷ []) zero v h = refl
+shiftUp-all (x ∷ (y ∷ s)) zero v h = absurd (not-suc-le-zero {n = length s} (omega arith))
+shiftUp-all (x ∷ s) (suc j) v h = ap (λ (r : List ℕ). v ∷ r) (shiftUp-all s j x (omega arith))
+
+shiftUp-turn-suc : (s : List ℕ) (j v : ℕ) → shiftUp (set s (suc j) (getD s j 0)) j v ≡ shiftUp s (suc j) v
+unfolding shiftUp
+shiftUp-turn-suc [] j v = refl
+shiftUp-turn-suc (x ∷ []) zero v = refl
+shiftUp-turn-suc (x ∷ (y ∷ s)) zero v = refl
+shiftUp-turn-suc (x ∷ s) (suc j) v = ap (λ (r : List ℕ). v ∷ r) (shiftUp-turn-suc s j x)
+
+pub shiftUp-turn : (s : List ℕ) (j v : ℕ) → 0 < j → shiftUp (set s j (getD s (j - 1) 0)) (j - 1) v ≡ shiftUp s j v
+shiftUp-turn s zero v h = absurd (not-suc-le-zero h)
+shiftUp-turn s (suc j) v h =
+    let z : suc j - 1 ≡ j = omega arith in
+    rw z (shiftUp-turn-suc s j v)
+
+pub shiftUp-first : (s : List ℕ) (v : ℕ) → set s 0 v ≡ shiftUp s 0 v
+unfolding shiftUp
+shiftUp-first [] v = refl
+shiftUp-first (x ∷ s) v = refl
+
+-- done to the part from i on
+pub shiftIn-part : (s : List ℕ) (i k v : ℕ) → i + k ≡ length s → putMid i k s (shiftIn (midOf i k s) 0 v) ≡ shiftIn s i v
 unfolding shiftIn
-shiftIn-past [] j v h = refl
-shiftIn-past (x ∷ s) zero v h = absurd (not-suc-le-zero h)
-shiftIn-past (x ∷ s) (suc j) v h = ap (λ (r : List ℕ). x ∷ r) (shiftIn-past s j v (le-of-suc-le-suc h))
+shiftIn-part s zero k v h = whole (λ (r : List ℕ). shiftIn r 0 v) s k (omega arith)
+shiftIn-part [] (suc i) k v h = absurd (not-suc-le-zero {n = i + k} (omega arith))
+shiftIn-part (x ∷ s) (suc i) k v h = ap (λ (r : List ℕ). x ∷ r) (shiftIn-part s i k v (omega arith))
+
+pub shiftOut-part : (s : List ℕ) (i n k : ℕ) → i + n ≡ length s → putMid i n s (shiftOut (midOf i n s) 0 k) ≡ shiftOut s i k
+unfolding shiftOut removeRun
+shiftOut-part s zero n k h = whole (λ (r : List ℕ). shiftOut r 0 k) s n (omega arith)
+shiftOut-part [] (suc i) n k h = absurd (not-suc-le-zero {n = i + n} (omega arith))
+shiftOut-part (x ∷ s) (suc i) n k h = ap (λ (r : List ℕ). x ∷ r) (shiftOut-part s i n k (omega arith))
 
 pub length-shiftIn : (s : List ℕ) (j v : ℕ) → length (shiftIn s j v) ≡ length s
 unfolding shiftIn
@@ -211,35 +271,33 @@ shiftIn-room xs zero v h = shiftIn-front xs v
 shiftIn-room [] (suc i) v h = absurd (not-suc-le-zero h)
 shiftIn-room (x ∷ xs) (suc i) v h = ap (λ (r : List ℕ). x ∷ r) (shiftIn-room xs i v (le-of-suc-le-suc h))
 
-pub shiftOut-is : (xs : List ℕ) (i : ℕ) → i < length xs → shiftOut xs i ≡ removeAt xs i ++ (0 ∷ [])
-unfolding shiftOut removeAt
-shiftOut-is [] i h = absurd (not-suc-le-zero h)
-shiftOut-is (x ∷ xs) zero h = refl
-shiftOut-is (x ∷ xs) (suc i) h = ap (λ (r : List ℕ). x ∷ r) (shiftOut-is xs i (le-of-suc-le-suc h))
-
-pub length-shiftOut : (s : List ℕ) (i : ℕ) → length (shiftOut s i) ≡ length s
+pub length-shiftOut : (s : List ℕ) (i k : ℕ) → i + k ≤ length s → length (shiftOut s i k) ≡ length s
 unfolding shiftOut
-length-shiftOut [] i = refl
-length-shiftOut (x ∷ s) zero = length-append s (0 ∷ []) ∙ add-one (length s)
-length-shiftOut (x ∷ s) (suc i) = ap suc (length-shiftOut s i)
+length-shiftOut s i k h = rw (length-append, length-replicate) (length-removeRun s i k h)
 
-shiftOut-turn-suc : (s : List ℕ) (j : ℕ) → suc j < length s → shiftOut (set s j (getD s (suc j) 0)) (suc j) ≡ shiftOut s j
+removeRun-turn : (s : List ℕ) (j k : ℕ) → j + k < length s → removeRun (set s j (getD s (j + k) 0)) (suc j) k ≡ removeRun s j k
+unfolding removeRun
+removeRun-turn [] j k h = absurd (not-suc-le-zero h)
+removeRun-turn (x ∷ s) zero k h = rw (zero-add k) (sym (drop-cons (x ∷ s) k 0 (omega arith)))
+removeRun-turn (x ∷ s) (suc j) k h = rw (suc-add j k) (ap (λ (r : List ℕ). x ∷ r) (removeRun-turn s j k (omega arith)))
+
+pub shiftOut-turn : (s : List ℕ) (j k : ℕ) → j + k < length s → shiftOut (set s j (getD s (j + k) 0)) (j + 1) k ≡ shiftOut s j k
 unfolding shiftOut
-shiftOut-turn-suc [] j h = absurd (not-suc-le-zero h)
-shiftOut-turn-suc (x ∷ []) zero h = absurd (not-suc-le-zero (le-of-suc-le-suc h))
-shiftOut-turn-suc (x ∷ (y ∷ s)) zero h = refl
-shiftOut-turn-suc (x ∷ s) (suc j) h = ap (λ (r : List ℕ). x ∷ r) (shiftOut-turn-suc s j (le-of-suc-le-suc h))
+shiftOut-turn s j k h = rw (add-one j) (ap (λ (r : List ℕ). r ++ replicate k 0) (removeRun-turn s j k h))
 
-pub shiftOut-turn : (s : List ℕ) (j : ℕ) → j + 1 < length s → shiftOut (set s j (getD s (j + 1) 0)) (j + 1) ≡ shiftOut s j
-shiftOut-turn s j h = rw (add-one j) (shiftOut-turn-suc s j (omega arith))
+-- the last ones
+removeRun-last : (s : List ℕ) (j k : ℕ) → j + k ≡ length s → removeRun s j k ≡ take j s
+unfolding removeRun
+removeRun-last s zero k h = drop-of-length-le s {i = k} (omega arith)
+removeRun-last [] (suc j) k h = refl
+removeRun-last (x ∷ s) (suc j) k h = ap (λ (r : List ℕ). x ∷ r) (removeRun-last s j k (omega arith))
 
--- the last one
-pub shiftOut-last : (s : List ℕ) (j : ℕ) → j + 1 ≡ length s → set s j 0 ≡ shiftOut s j
+-- the cells from j on cleared
+pub shiftOut-last : (s : List ℕ) (j n k : ℕ) → j + k ≡ length s → n ≡ k → putMid j n s (replicate (length (midOf j n s)) 0) ≡ shiftOut s j k
 unfolding shiftOut
-shiftOut-last [] j h = refl
-shiftOut-last (x ∷ []) zero h = refl
-shiftOut-last (x ∷ (y ∷ s)) zero h = absurd (not-suc-le-zero {n = length s} (omega arith))
-shiftOut-last (x ∷ s) (suc j) h = ap (λ (r : List ℕ). x ∷ r) (shiftOut-last s j (omega arith))
+shiftOut-last s j n k h e =
+    let z : length (midOf j n s) ≡ k = length-take-le n (drop j s) (omega (arith, length-drop j s)) ∙ e in
+    rw (z, removeRun-last s j k h, drop-drop n j s, drop-of-length-le s {i = j + n} (omega arith)) (ap (λ (r : List ℕ). take j s ++ r) (append-nil (replicate k 0)))
 
 module _ (f : ℕ → ℕ) where
   onFrom-turn-suc : (s : List ℕ) (j : ℕ) → j < length s → onFrom f (set s j (f (getD s j 0))) (suc j) ≡ onFrom f s j
@@ -267,3 +325,20 @@ module _ (f : ℕ → ℕ) where
 pub filled : (j : ℕ) (t s : List ℕ) → t ≡ replicate j 0 ++ drop j s → j ≡ length s → t ≡ replicate (length s) 0
 filled j t s e h =
     e ∙ ap (λ (n : ℕ). replicate n 0 ++ drop n s) h ∙ ap (λ (r : List ℕ). replicate (length s) 0 ++ r) (drop-length s) ∙ append-nil (replicate (length s) 0)
+
+-- ---- two lists compared
+
+-- lists that the test of equality passes
+pub same-lists : (xs ys : List ℕ) → sameList xs ys ≡ true → xs ≡ ys
+unfolding sameList
+same-lists [] [] h = refl
+same-lists [] (b ∷ ys) h = absurd (false≢true h)
+same-lists (a ∷ xs) [] h = absurd (false≢true h)
+same-lists (a ∷ xs) (b ∷ ys) h =
+    bool-case (λ (t : Bool). t ≡ true → a ∷ xs ≡ b ∷ ys) (eqb a b)
+    (λ e k. ap (λ (c : ℕ). c ∷ xs) (eqb-true a b e) ∙ ap (λ (r : List ℕ). b ∷ r) (same-lists xs ys k)) (λ _ k. absurd (false≢true k)) h
+
+pub same-itself : (xs : List ℕ) → sameList xs xs ≡ true
+unfolding sameList
+same-itself [] = refl
+same-itself (a ∷ xs) = rw (eq-eqb a a refl, sameList) (same-itself xs)

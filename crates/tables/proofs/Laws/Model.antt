@@ -7,10 +7,10 @@ use Prim.Native.Nat.{ℕ, zero, suc, _+_, _-_, _≤_, _<_}
 use native.Mathlib.Omega.{arith}
 use lib.ListN.{length, set, getD, length-append, length-set, List·getD-append, List·getD-map}
 use lib.Seq.{getD-set-same, getD-set-other, set-set, set-getD, getD-at}
-use Rattle.tables.specs.Lists.{insertAt, removeAt, sum}
-use Rattle.tables.specs.Records.{Item, child, text, Model, contentItems, parentOf, setOf, listOf, putParent, putSet, putList, insertItem, removeItem, addToModel}
+use Rattle.tables.specs.Lists.{insertAt, removeAt, removeRun, sum}
+use Rattle.tables.specs.Records.{Item, child, text, Model, contentItems, parentOf, setOf, listOf, putParent, putSet, putList, insertItem, removeItem, removeItems, addToModel}
 use Rattle.tables.specs.ModelTable.{flat, startOf, countOf}
-use Rattle.tables.proofs.Laws.Lists.{length-insertAt, length-removeAt, removeAt-insertAt, insertAt-removeAt, map-set, length-flat, flat-append, flat-insert, flat-remove, start-fits}
+use Rattle.tables.proofs.Laws.Lists.{length-insertAt, length-removeRun, removeAt-insertAt, insertAt-removeAt, map-set, length-flat, flat-append, flat-insert, flat-remove, start-fits}
 
 -- ---- a parent stored
 
@@ -251,13 +251,13 @@ length-list-insert m e i a h =
     map-set length (m .lists) e (insertAt (listOf m e) i a)
     ∙ ap (set (map length (m .lists)) e) (length-insertAt (listOf m e) i a ∙ ap suc (sym (List·getD-map length (m .lists) e [])))
 
-pub length-list-remove : (m : Model) (e i : ℕ) → e < length (m .lists) → i < length (listOf m e)
-    → map length (set (m .lists) e (removeAt (listOf m e) i)) ≡ set (map length (m .lists)) e (getD (map length (m .lists)) e 0 - 1)
-length-list-remove m e i h k =
-    let r = length-removeAt (listOf m e) i k in
-    let n : length (removeAt (listOf m e) i) ≡ length (listOf m e) - 1 = omega arith in
-    map-set length (m .lists) e (removeAt (listOf m e) i)
-    ∙ ap (set (map length (m .lists)) e) (n ∙ ap (λ (j : ℕ). j - 1) (sym (List·getD-map length (m .lists) e [])))
+pub length-list-remove : (m : Model) (e i k : ℕ) → e < length (m .lists) → i + k ≤ length (listOf m e)
+    → map length (set (m .lists) e (removeRun (listOf m e) i k)) ≡ set (map length (m .lists)) e (getD (map length (m .lists)) e 0 - k)
+length-list-remove m e i k h b =
+    let r = length-removeRun (listOf m e) i k b in
+    let n : length (removeRun (listOf m e) i k) ≡ length (listOf m e) - k = omega arith in
+    map-set length (m .lists) e (removeRun (listOf m e) i k)
+    ∙ ap (set (map length (m .lists)) e) (n ∙ ap (λ (j : ℕ). j - k) (sym (List·getD-map length (m .lists) e [])))
 
 pub total-insert : (m : Model) (e i : ℕ) (a : Item) → e < length (m .lists) → i ≤ length (listOf m e)
     → contentItems (insertItem m e i a) ≡ suc (contentItems m)
@@ -268,13 +268,13 @@ total-insert m e i a h k =
     ∙ length-insertAt (flat (m .lists)) (startOf (m .lists) e + i) a
     ∙ ap suc (length-flat (m .lists))
 
-pub total-remove : (m : Model) (e i : ℕ) → e < length (m .lists) → i < length (listOf m e) → suc (contentItems (removeItem m e i)) ≡ contentItems m
-unfolding contentItems removeItem putList
-total-remove m e i h k =
+pub total-remove : (m : Model) (e i k : ℕ) → e < length (m .lists) → i + k ≤ length (listOf m e) → contentItems (removeItems m e i k) + k ≡ contentItems m
+unfolding contentItems removeItems putList
+total-remove m e i k h b =
     let f = start-fits (m .lists) e h in
-    let b : startOf (m .lists) e + i < length (flat (m .lists)) = omega arith in
-    ap suc (sym (length-flat (set (m .lists) e (removeAt (listOf m e) i))) ∙ ap length (flat-remove (m .lists) e i h k))
-    ∙ length-removeAt (flat (m .lists)) (startOf (m .lists) e + i) b
+    let c : startOf (m .lists) e + i + k ≤ length (flat (m .lists)) = omega arith in
+    ap (λ (n : ℕ). n + k) (sym (length-flat (set (m .lists) e (removeRun (listOf m e) i k))) ∙ ap length (flat-remove (m .lists) e i k h b))
+    ∙ length-removeRun (flat (m .lists)) (startOf (m .lists) e + i) k c
     ∙ length-flat (m .lists)
 
 pub flat-add : (ls : List (List Item)) → flat (ls ++ ([] ∷ [])) ≡ flat ls

@@ -13,16 +13,16 @@ use lib.ListN.{length, set, getD, take, drop, replicate, length-append, length-m
 use lib.Seq.{take-at, drop-at, drop-drop}
 use Rattle.tables.specs.Cells.{padded, puts, rowCells, cells, rowsOf, Each}
 use Rattle.tables.specs.Limits.{elementLimit, itemLimit}
-use Rattle.tables.specs.Lists.{insertAt, removeAt, sum}
+use Rattle.tables.specs.Lists.{insertAt, removeRun, sum}
 use Rattle.tables.specs.FileSets.{noSet}
 use Rattle.tables.specs.SetCells.{setWidth, setCells, cellsSet}
-use Rattle.tables.specs.Records.{FileSet, Item, child, text, Model, contentItems, parentOf, setOf, listOf, putParent, putSet, putList, insertItem, removeItem, addToModel}
+use Rattle.tables.specs.Records.{FileSet, Item, child, text, Model, contentItems, parentOf, setOf, listOf, putParent, putSet, putList, insertItem, removeItems, addToModel}
 use Rattle.tables.specs.ModelTable.{parentsAt, setsAt, startsAt, itemsAt, modelSize, parentCell, cellParent, itemCell, cellItem, sums, gaps, gapsOf, flat, startOf, cut, countOf, encodeModel, modelOf, ParentBelow, ItemBelow, SizedModel, GoodModel, HoldsModel, shiftIn, shiftOut, onFrom, noModel}
 use Rattle.tables.proofs.Laws.Cells.{set-inside, getD-inside, getD-behind, length-padded, getD-padded, set-padded, set-behind-padded, take-padded, padded-more, mid-padded, put-padded, each-getD, each-set, each-append, each-all, each-imp, length-cells, last-back, getD-rowsOf, put-last, append-last}
-use Rattle.tables.proofs.Laws.Lists.{length-insertAt, length-removeAt, each-insertAt, each-removeAt, map-set, map-insertAt, map-removeAt, map-then, map-back, length-flat, flat-append, flat-insert, flat-remove, getD-flat, start-fits, start-end, start-next, cut-flat, length-shiftIn, length-shiftOut, shiftIn-room, shiftOut-is}
+use Rattle.tables.proofs.Laws.Lists.{length-insertAt, length-removeRun, each-insertAt, each-removeRun, map-set, map-insertAt, map-removeRun, map-then, map-back, length-flat, flat-append, flat-insert, flat-remove, getD-flat, start-fits, start-end, start-next, cut-flat, length-shiftIn, length-shiftOut, shiftIn-room}
 use Rattle.tables.proofs.Laws.Model.{length-list-insert, length-list-remove, total-insert, total-remove, flat-add, total-add}
 use Rattle.tables.proofs.Laws.SetCells.{set-back, wide-set}
-use Rattle.tables.proofs.Laws.Starts.{length-sums, gaps-sums, sums-at, sums-insert, sums-remove, sums-append, sums-most, sums-some}
+use Rattle.tables.proofs.Laws.Starts.{length-sums, gaps-sums, sums-at, sums-insert, sums-remove, sums-append, sums-most, sums-past}
 
 -- ---- one cell
 
@@ -381,19 +381,19 @@ sized-insert m e i a s h k t b =
           (each-insertAt (ItemBelow (countOf m)) (flat (m .lists)) (startOf (m .lists) e + i) a (s .itemsIn) b);
     }
 
-sized-remove : (m : Model) (e i : ℕ) → SizedModel m → e < countOf m → i < length (listOf m e) → SizedModel (removeItem m e i)
-unfolding removeItem putList
-sized-remove m e i s h k =
-    let z = total-remove m e i (omega (arith, s .lists)) k in
+sized-remove : (m : Model) (e i k : ℕ) → SizedModel m → e < countOf m → i + k ≤ length (listOf m e) → SizedModel (removeItems m e i k)
+unfolding removeItems putList
+sized-remove m e i k s h b =
+    let z = total-remove m e i k (omega (arith, s .lists)) b in
     record {
       sets = s .sets;
-      lists = length-set (m .lists) e (removeAt (listOf m e) i) ∙ s .lists;
+      lists = length-set (m .lists) e (removeRun (listOf m e) i k) ∙ s .lists;
       count = s .count;
       total = omega (arith, s .total);
       parentsIn = s .parentsIn;
       itemsIn =
-          rw (flat-remove (m .lists) e i (omega (arith, s .lists)) k)
-          (each-removeAt (ItemBelow (countOf m)) (flat (m .lists)) (startOf (m .lists) e + i) (s .itemsIn));
+          rw (flat-remove (m .lists) e i k (omega (arith, s .lists)) b)
+          (each-removeRun (ItemBelow (countOf m)) (flat (m .lists)) (startOf (m .lists) e + i) k (s .itemsIn));
     }
 
 -- the parts that are lent, and the table when both are back: the items with ps, the starts with qs
@@ -439,14 +439,13 @@ module _ (xs : List ℕ) (g : GoodModel xs) where
       let r = sums-most 0 (map length (modelOf xs .lists)) k in
       omega (arith, g .sized .total)
 
-  pub starts-some : (e i : ℕ) → i < length (listOf (modelOf xs) e) → (k : ℕ) → e + 1 ≤ k → k < length (sums 0 (map length (modelOf xs .lists)))
-      → 0 < getD (sums 0 (map length (modelOf xs .lists))) k 0
-  starts-some e i h k b l =
+  pub starts-past : (e i k : ℕ) → e < countOf (modelOf xs) → i + k ≤ length (listOf (modelOf xs) e) → (j : ℕ) → e + 1 ≤ j
+      → j < length (sums 0 (map length (modelOf xs .lists))) → k ≤ getD (sums 0 (map length (modelOf xs .lists))) j 0
+  starts-past e i k h b j c l =
       let m = modelOf xs in
-      let j = listed-below xs g e i h in
       let n : e < length (map length (m .lists)) = rw (length-map (m .lists) length) (omega (arith, g .sized .lists)) in
-      let o : 0 < getD (map length (m .lists)) e 0 = rw (List·getD-map length (m .lists) e []) (omega arith) in
-      sums-some 0 (map length (m .lists)) e k n o (omega arith) l
+      let o : k ≤ getD (map length (m .lists)) e 0 = rw (List·getD-map length (m .lists) e []) (omega arith) in
+      sums-past 0 (map length (m .lists)) e k j n o (omega arith) l
 
   -- ---- a list changed: of the items, those in use, us, become f of them, and of the starts those behind e become h of each
 
@@ -487,7 +486,7 @@ module _ (xs : List ℕ) (g : GoodModel xs) where
 
   module _ (e i : ℕ) (a : Item) (h : e < countOf (modelOf xs)) (le : i ≤ length (listOf (modelOf xs) e)) (few : contentItems (modelOf xs) < itemLimit) where
     insert-room : itemArea (modelOf xs) ≡ padded itemLimit (map itemCell (flat (modelOf xs .lists)) ++ (0 ∷ []))
-    insert-room = padded-more itemLimit (map itemCell (flat (modelOf xs .lists))) (rw (length-itemsUsed (modelOf xs) (g .sized)) few)
+    insert-room = padded-more itemLimit (map itemCell (flat (modelOf xs .lists))) 1 (rw (length-itemsUsed (modelOf xs) (g .sized)) (omega arith))
 
     insert-size : suc (contentItems (modelOf xs)) ≡ length (map itemCell (flat (modelOf xs .lists)) ++ (0 ∷ []))
     insert-size =
@@ -529,52 +528,57 @@ module _ (xs : List ℕ) (g : GoodModel xs) where
           (sums-insert 0 ns e n ∙ ap (sums 0) (sym (length-list-insert m e i a (omega (arith, g .sized .lists)))))
           qq (sized-insert m e i a (g .sized) h le few b)
 
-  -- ---- an item removed
+  -- ---- items removed
 
-  module _ (e i : ℕ) (h : e < countOf (modelOf xs)) (lt : i < length (listOf (modelOf xs) e)) where
-    remove-keeps : length (shiftOut (map itemCell (flat (modelOf xs .lists))) (startOf (modelOf xs .lists) e + i)) ≡ length (map itemCell (flat (modelOf xs .lists)))
-    remove-keeps = length-shiftOut (map itemCell (flat (modelOf xs .lists))) (startOf (modelOf xs .lists) e + i)
+  module _ (e i n : ℕ) (h : e < countOf (modelOf xs)) (le : i + n ≤ length (listOf (modelOf xs) e)) where
+    remove-within : startOf (modelOf xs .lists) e + i + n ≤ length (map itemCell (flat (modelOf xs .lists)))
+    remove-within =
+        let r = start-room xs g e h in
+        rw (length-itemsUsed (modelOf xs) (g .sized)) (omega arith)
 
-    remove-items : shiftOut (map itemCell (flat (modelOf xs .lists))) (startOf (modelOf xs .lists) e + i)
-        ≡ map itemCell (flat (set (modelOf xs .lists) e (removeAt (listOf (modelOf xs) e) i))) ++ (0 ∷ [])
+    remove-keeps : length (shiftOut (map itemCell (flat (modelOf xs .lists))) (startOf (modelOf xs .lists) e + i) n)
+        ≡ length (map itemCell (flat (modelOf xs .lists)))
+    remove-keeps = length-shiftOut (map itemCell (flat (modelOf xs .lists))) (startOf (modelOf xs .lists) e + i) n remove-within
+
+    remove-items : removeRun (map itemCell (flat (modelOf xs .lists))) (startOf (modelOf xs .lists) e + i) n
+        ≡ map itemCell (flat (set (modelOf xs .lists) e (removeRun (listOf (modelOf xs) e) i n)))
     remove-items =
         let m = modelOf xs in
-        let at = startOf (m .lists) e + i in
-        let r = start-room xs g e h in
-        let j : at < length (map itemCell (flat (m .lists))) = rw (length-itemsUsed m (g .sized)) (omega arith) in
-        shiftOut-is (map itemCell (flat (m .lists))) at j
-        ∙ ap (λ (z : List ℕ). z ++ (0 ∷ []))
-        (sym (map-removeAt itemCell (flat (m .lists)) at) ∙ ap (map itemCell) (sym (flat-remove (m .lists) e i (omega (arith, g .sized .lists)) lt)))
+        sym (map-removeRun itemCell (flat (m .lists)) (startOf (m .lists) e + i) n)
+        ∙ ap (map itemCell) (sym (flat-remove (m .lists) e i n (omega (arith, g .sized .lists)) le))
 
-    remove-padded : padded itemLimit (shiftOut (map itemCell (flat (modelOf xs .lists))) (startOf (modelOf xs .lists) e + i))
-        ≡ padded itemLimit (map itemCell (flat (set (modelOf xs .lists) e (removeAt (listOf (modelOf xs) e) i))))
+    remove-padded : padded itemLimit (shiftOut (map itemCell (flat (modelOf xs .lists))) (startOf (modelOf xs .lists) e + i) n)
+        ≡ padded itemLimit (map itemCell (flat (set (modelOf xs .lists) e (removeRun (listOf (modelOf xs) e) i n))))
+    unfolding shiftOut
     remove-padded =
         let m = modelOf xs in
-        let vs = map itemCell (flat (set (m .lists) e (removeAt (listOf m e) i))) in
-        let z : length (vs ++ (0 ∷ [])) ≡ contentItems m = ap length (sym remove-items) ∙ remove-keeps ∙ length-itemsUsed m (g .sized) in
-        let few : length vs < itemLimit = omega (arith, length-append vs (0 ∷ []), g .sized .total) in
-        ap (padded itemLimit) remove-items ∙ sym (padded-more itemLimit vs few)
+        let us = map itemCell (flat (m .lists)) in
+        let at = startOf (m .lists) e + i in
+        let few : length (removeRun us at n) + n ≤ itemLimit =
+        omega (arith, length-removeRun us at n remove-within, length-itemsUsed m (g .sized), g .sized .total)
+        in
+        sym (padded-more itemLimit (removeRun us at n) n few) ∙ ap (padded itemLimit) remove-items
 
     module _ (k l : ℕ) (ps : List ℕ) (kk : k ≡ contentItems (modelOf xs)) (ll : l ≡ suc (countOf (modelOf xs)))
-        (pp : ps ≡ shiftOut (midOf itemsAt k xs) (startOf (modelOf xs .lists) e + i)) where
+        (pp : ps ≡ shiftOut (midOf itemsAt k xs) (startOf (modelOf xs .lists) e + i) n) where
       pub remove-starts : midOf startsAt l (putMid itemsAt k xs ps) ≡ sums 0 (map length (modelOf xs .lists))
       remove-starts =
-          starts-kept (map itemCell (flat (modelOf xs .lists))) refl (λ (z : List ℕ). shiftOut z (startOf (modelOf xs .lists) e + i)) remove-keeps k l ps (kk ∙ sym (length-itemsUsed (modelOf xs) (g .sized))) ll pp
+          starts-kept (map itemCell (flat (modelOf xs .lists))) refl (λ (z : List ℕ). shiftOut z (startOf (modelOf xs .lists) e + i) n) remove-keeps k l ps (kk ∙ sym (length-itemsUsed (modelOf xs) (g .sized))) ll pp
 
-      pub store-remove : (qs : List ℕ) → qs ≡ onFrom (λ (x : ℕ). x - 1) (midOf startsAt l (putMid itemsAt k xs ps)) (e + 1)
-          → HoldsModel (putMid startsAt l (putMid itemsAt k xs ps) qs) (removeItem (modelOf xs) e i)
-      unfolding removeItem putList
+      pub store-remove : (qs : List ℕ) → qs ≡ onFrom (λ (x : ℕ). x - n) (midOf startsAt l (putMid itemsAt k xs ps)) (e + 1)
+          → HoldsModel (putMid startsAt l (putMid itemsAt k xs ps) qs) (removeItems (modelOf xs) e i n)
+      unfolding removeItems putList
       store-remove qs qq =
           let m = modelOf xs in
           let ns = map length (m .lists) in
-          let n : e < length ns = rw (length-map (m .lists) length) (omega (arith, g .sized .lists)) in
-          let o : 0 < getD ns e 0 = rw (List·getD-map length (m .lists) e []) (omega arith) in
-          store-lists (map itemCell (flat (m .lists))) refl (λ (z : List ℕ). shiftOut z (startOf (m .lists) e + i)) remove-keeps k l ps
+          let b : e < length ns = rw (length-map (m .lists) length) (omega (arith, g .sized .lists)) in
+          let o : n ≤ getD ns e 0 = rw (List·getD-map length (m .lists) e []) (omega arith) in
+          store-lists (map itemCell (flat (m .lists))) refl (λ (z : List ℕ). shiftOut z (startOf (m .lists) e + i) n) remove-keeps k l ps
           (kk ∙ sym (length-itemsUsed m (g .sized))) ll pp
-          (set (m .lists) e (removeAt (listOf m e) i)) (λ (x : ℕ). x - 1) e qs
+          (set (m .lists) e (removeRun (listOf m e) i n)) (λ (x : ℕ). x - n) e qs
           remove-padded
-          (sums-remove 0 ns e n o ∙ ap (sums 0) (sym (length-list-remove m e i (omega (arith, g .sized .lists)) lt)))
-          qq (sized-remove m e i (g .sized) h lt)
+          (sums-remove 0 ns e n b o ∙ ap (sums 0) (sym (length-list-remove m e i n (omega (arith, g .sized .lists)) le)))
+          qq (sized-remove m e i n (g .sized) h le)
 
 -- ---- one more element
 

@@ -1,4 +1,4 @@
--- Laws of paths held in cells: their order, beginning and shared beginning, part by part. Assumes nothing.
+-- Laws of paths held in cells: their order and shared beginning, part by part. Assumes nothing.
 use mathlib.Core.Bool.{Bool, true, false}
 use mathlib.Core.List.{List, [], _∷_, dropLast}
 use mathlib.Core.Path.{_≡_, refl, sym, ap, _∙_}
@@ -6,13 +6,12 @@ use Prim.Native.Nat.{ℕ, zero, suc, _+_, _≤_, _<_, compare, Ordering, Orderin
 use native.Mathlib.Nat.{suc-inj}
 use native.Mathlib.Numerals.{add-one}
 use native.Mathlib.Omega.{arith}
-use borrow.Author.Tests.{eq-eqb, ne-eqb}
 use lib.Dec.{eqb, eqb·suc-zero, eqb·suc-suc}
 use lib.ListN.{length, getD, drop, drop-of-length-le}
 use Rattle.tables.specs.declared.path.Order.{Order}
 use Rattle.tables.specs.declared.path.Order.the-variants.{Less, Equal, Greater}
 use Rattle.tables.specs.declared.path.Path.{Path}
-use Rattle.tables.specs.Paths.{begins, pathOrder, samePath, sharedBeginning, front, pathCells, cellsOf, partsOf, orderOf, sharesPart}
+use Rattle.tables.specs.Paths.{pathOrder, samePath, sharedBeginning, front, pathCells, cellsOf, partsOf, orderOf, sharesPart}
 use Rattle.tables.specs.Records.{SchemaPath}
 
 -- ---- the comparison of two numbers
@@ -36,11 +35,11 @@ compare-eq (suc a) = compare·suc-suc a a ∙ compare-eq a
 -- ---- the parts from a cell on
 
 -- the parts that one cell and those behind it hold
-parts : ℕ → List ℕ → SchemaPath
+unfoldable pub parts : ℕ → List ℕ → SchemaPath
 parts zero cs = []
 parts (suc a) cs = a ∷ front cs
 
-parts-at : (cs : List ℕ) (i : ℕ) → front (drop i cs) ≡ parts (getD cs i 0) (drop (i + 1) cs)
+pub parts-at : (cs : List ℕ) (i : ℕ) → front (drop i cs) ≡ parts (getD cs i 0) (drop (i + 1) cs)
 unfolding front parts
 parts-at cs i = rw (add-one i) (go cs i)
   where
@@ -95,35 +94,12 @@ same-order p q = go (pathOrder p q)
     go Ordering·eq = refl
     go Ordering·gt = refl
 
--- ---- beginning
-
-begins-end : (x : ℕ) (cs : List ℕ) (q : SchemaPath) → x ≡ 0 → begins (parts x cs) q ≡ true
-unfolding parts begins
-begins-end zero cs q e = refl
-begins-end (suc a) cs q e = absurd (omega arith)
-
-begins-other : (x y : ℕ) (cs ds : List ℕ) → (x ≡ 0 → ⊥) → (x ≡ y → ⊥) → begins (parts x cs) (parts y ds) ≡ false
-unfolding parts begins
-begins-other zero y cs ds n d = absurd (n refl)
-begins-other (suc a) zero cs ds n d = refl
-begins-other (suc a) (suc b) cs ds n d = rw (ne-eqb a b (λ e. d (ap suc e)), begins)
-
-begins-next : (x y : ℕ) (cs ds : List ℕ) → (x ≡ 0 → ⊥) → x ≡ y → begins (parts x cs) (parts y ds) ≡ begins (front cs) (front ds)
-unfolding parts begins
-begins-next zero y cs ds n e = absurd (n refl)
-begins-next (suc a) zero cs ds n e = absurd (omega arith)
-begins-next (suc a) (suc b) cs ds n e = rw (eq-eqb a b (suc-inj e), begins)
-
 -- ---- one turn of a walk over two paths' cells
 
 module _ (p q : Path) (i : ℕ) where
   pub order-past : 4 ≤ i → pathOrder (front (drop i (cellsOf p))) (front (drop i (cellsOf q))) ≡ Ordering·eq
   unfolding front pathOrder
   order-past h = rw (drop-of-length-le (cellsOf p) h, drop-of-length-le (cellsOf q) h)
-
-  pub begins-past : 4 ≤ i → begins (front (drop i (cellsOf p))) (front (drop i (cellsOf q))) ≡ true
-  unfolding front begins
-  begins-past h = rw (drop-of-length-le (cellsOf p) h)
 
   module _ {x y : ℕ} (ex : x ≡ getD (cellsOf p) i 0) (ey : y ≡ getD (cellsOf q) i 0) where
     here : front (drop i (cellsOf p)) ≡ parts x (drop (i + 1) (cellsOf p))
@@ -149,20 +125,6 @@ module _ (p q : Path) (i : ℕ) where
         ap (λ (r : SchemaPath). pathOrder r (front (drop i (cellsOf q)))) here
         ∙ ap (pathOrder (parts x (drop (i + 1) (cellsOf p)))) there
         ∙ order-next x y (drop (i + 1) (cellsOf p)) (drop (i + 1) (cellsOf q)) (omega arith) n
-
-    pub begins-end-at : x ≡ 0 → begins (front (drop i (cellsOf p))) (front (drop i (cellsOf q))) ≡ true
-    begins-end-at z = rw here (begins-end x (drop (i + 1) (cellsOf p)) (front (drop i (cellsOf q))) z)
-
-    pub begins-other-at : (x ≡ 0 → ⊥) → (x ≡ y → ⊥) → begins (front (drop i (cellsOf p))) (front (drop i (cellsOf q))) ≡ false
-    begins-other-at n d = rw (here, there) (begins-other x y (drop (i + 1) (cellsOf p)) (drop (i + 1) (cellsOf q)) n d)
-
-    pub begins-next-at : (x ≡ 0 → ⊥) → x ≡ y
-        → begins (front (drop i (cellsOf p))) (front (drop i (cellsOf q)))
-        ≡ begins (front (drop (i + 1) (cellsOf p))) (front (drop (i + 1) (cellsOf q)))
-    begins-next-at n e =
-        ap (λ (r : SchemaPath). begins r (front (drop i (cellsOf q)))) here
-        ∙ ap (begins (parts x (drop (i + 1) (cellsOf p)))) there
-        ∙ begins-next x y (drop (i + 1) (cellsOf p)) (drop (i + 1) (cellsOf q)) n e
 
 -- ---- shared beginning
 

@@ -39,14 +39,14 @@ sums-raised a (n ∷ ns) =
     let z : a + n + 1 ≡ a + 1 + n = omega arith in
     ap (λ (r : List ℕ). (a + 1) ∷ r) (sums-raised (a + n) ns ∙ ap (λ (k : ℕ). sums k ns) z)
 
-pub sums-lowered : (a : ℕ) (ns : List ℕ) → 0 < a → onFrom (λ (x : ℕ). x - 1) (sums a ns) zero ≡ sums (a - 1) ns
+pub sums-lowered : (a : ℕ) (ns : List ℕ) (k : ℕ) → k ≤ a → onFrom (λ (x : ℕ). x - k) (sums a ns) zero ≡ sums (a - k) ns
 unfolding sums onFrom
-sums-lowered a [] h = refl
-sums-lowered a (n ∷ ns) h =
-    let z : a + n - 1 ≡ a - 1 + n = omega arith in
-    ap (λ (r : List ℕ). (a - 1) ∷ r) (sums-lowered (a + n) ns (omega arith) ∙ ap (λ (k : ℕ). sums k ns) z)
+sums-lowered a [] k h = refl
+sums-lowered a (n ∷ ns) k h =
+    let z : a + n - k ≡ a - k + n = omega arith in
+    ap (λ (r : List ℕ). (a - k) ∷ r) (sums-lowered (a + n) ns k (omega arith) ∙ ap (λ (j : ℕ). sums j ns) z)
 
--- one list longer by one, one list shorter by one
+-- one list longer by one, one list shorter by k
 pub sums-insert : (a : ℕ) (ns : List ℕ) (e : ℕ) → e < length ns
     → onFrom (λ (x : ℕ). x + 1) (sums a ns) (suc e) ≡ sums a (set ns e (suc (getD ns e 0)))
 unfolding sums onFrom
@@ -56,14 +56,14 @@ sums-insert a (n ∷ ns) zero h =
     ap (λ (r : List ℕ). a ∷ r) (sums-raised (a + n) ns ∙ ap (λ (k : ℕ). sums k ns) z)
 sums-insert a (n ∷ ns) (suc e) h = ap (λ (r : List ℕ). a ∷ r) (sums-insert (a + n) ns e (le-of-suc-le-suc h))
 
-pub sums-remove : (a : ℕ) (ns : List ℕ) (e : ℕ) → e < length ns → 0 < getD ns e 0
-    → onFrom (λ (x : ℕ). x - 1) (sums a ns) (suc e) ≡ sums a (set ns e (getD ns e 0 - 1))
+pub sums-remove : (a : ℕ) (ns : List ℕ) (e k : ℕ) → e < length ns → k ≤ getD ns e 0
+    → onFrom (λ (x : ℕ). x - k) (sums a ns) (suc e) ≡ sums a (set ns e (getD ns e 0 - k))
 unfolding sums onFrom
-sums-remove a [] e h k = absurd (not-suc-le-zero h)
-sums-remove a (n ∷ ns) zero h k =
-    let z : a + n - 1 ≡ a + (n - 1) = omega arith in
-    ap (λ (r : List ℕ). a ∷ r) (sums-lowered (a + n) ns (omega arith) ∙ ap (λ (i : ℕ). sums i ns) z)
-sums-remove a (n ∷ ns) (suc e) h k = ap (λ (r : List ℕ). a ∷ r) (sums-remove (a + n) ns e (le-of-suc-le-suc h) k)
+sums-remove a [] e k h b = absurd (not-suc-le-zero h)
+sums-remove a (n ∷ ns) zero k h b =
+    let z : a + n - k ≡ a + (n - k) = omega arith in
+    ap (λ (r : List ℕ). a ∷ r) (sums-lowered (a + n) ns k (omega arith) ∙ ap (λ (i : ℕ). sums i ns) z)
+sums-remove a (n ∷ ns) (suc e) k h b = ap (λ (r : List ℕ). a ∷ r) (sums-remove (a + n) ns e k (le-of-suc-le-suc h) b)
 
 -- one empty list more: the last start once more
 pub sums-append : (a : ℕ) (ns : List ℕ) → sums a (ns ++ (0 ∷ [])) ≡ sums a ns ++ ((a + sum ns) ∷ [])
@@ -92,12 +92,12 @@ sums-most a (n ∷ ns) (suc k) =
     let r = sums-most (a + n) ns k in
     omega arith
 
--- behind a list that is not empty, no start is 0
-pub sums-some : (a : ℕ) (ns : List ℕ) (e k : ℕ) → e < length ns → 0 < getD ns e 0 → suc e ≤ k → k < length (sums a ns) → 0 < getD (sums a ns) k 0
+-- behind a list of so many, no start is less
+pub sums-past : (a : ℕ) (ns : List ℕ) (e k j : ℕ) → e < length ns → k ≤ getD ns e 0 → suc e ≤ j → j < length (sums a ns) → k ≤ getD (sums a ns) j 0
 unfolding sums
-sums-some a [] e k h p g l = absurd (not-suc-le-zero h)
-sums-some a (n ∷ ns) e zero h p g l = absurd (not-suc-le-zero g)
-sums-some a (n ∷ ns) zero (suc k) h p g l =
-    let r = sums-least (a + n) ns k (le-of-suc-le-suc l) in
+sums-past a [] e k j h p g l = absurd (not-suc-le-zero h)
+sums-past a (n ∷ ns) e k zero h p g l = absurd (not-suc-le-zero g)
+sums-past a (n ∷ ns) zero k (suc j) h p g l =
+    let r = sums-least (a + n) ns j (le-of-suc-le-suc l) in
     omega arith
-sums-some a (n ∷ ns) (suc e) (suc k) h p g l = sums-some (a + n) ns e k (le-of-suc-le-suc h) p (le-of-suc-le-suc g) (le-of-suc-le-suc l)
+sums-past a (n ∷ ns) (suc e) k (suc j) h p g l = sums-past (a + n) ns e k j (le-of-suc-le-suc h) p (le-of-suc-le-suc g) (le-of-suc-le-suc l)

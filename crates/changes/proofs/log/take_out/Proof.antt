@@ -1,41 +1,64 @@
-use Rattle.table_test.proofs.Laws.Fits.{fits-remove}
-use Rattle.changes.proofs.Laws.Places.{place-within, out-none, out-some}
+use mathlib.Core.Path.{_≡_, refl}
+use native.Mathlib.Omega.{arith}
+use Rattle.tables.specs.ModelTable.{modelOf}
+use Rattle.table_test.proofs.Laws.Fits.{keeps-count}
+use Rattle.changes.proofs.Laws.Runs.{run-small, leads-more, once-left, leads-one, leads-none}
 use borrow.Author.Needs.{needs}
 use Rattle.changes.proofs.log.take_out.Statement.{statement}
 use Rattle.changes.proofs.log.take_out.Tie as tie
 
+sub-i : tie.Need-sub-i
+sub-i c = c .before .before .stands-before .ensures (c .before .if2 .taken) .some
+
+add-k : tie.Need-add-k
+add-k c =
+    let s = c .before .before .before .before .before .before .before in
+    omega (arith, run-small (s .args .model .now) (s .args .r) (s .pre .0) (s .pre .1 .0))
+
 returns : tie.Need-returns
 returns c =
-    let s = c .before .before .before .before .before in
-    let found = c .before .before .place-of in
-    (out-none (s .args .model .now) (s .args .e .0) (s .args .p .0) (found .result) (s .pre .0) (found .ensures) (c .enum-told .given .1), λ n texts f. f)
-
-remove-item-requires : tie.Need-remove-item-requires
-remove-item-requires c κs =
     let s = c .before .before .before .before .before .before .before in
-    (s .pre .0, (s .pre .1, place-within _ _ (c .before .before .found .given .0 .0) (c .before .before .before .before .place-of .result) (c .before .before .before .before .place-of .ensures) (c .before .before .found .given .1)))
+    let a = s .args in
+    leads-more (a .model .now) (a .r) (a .once) (s .pre .1 .1 .1) (a .e .0) (a .p .0) _ refl (s .pre .0) (s .pre .1 .0) (c .before .before .before .before .before .if1 .taken) (c .before .before .before .stands-before .ensures (c .before .before .if2 .taken)) refl refl
+
+find-place-requires : tie.Need-find-place-requires
+find-place-requires c κs =
+    let s = c .before .before .before .before .before .before .before in
+    let m = s .args .model .now in
+    let f = c .before .before .before .remove-run in
+    let h = f .ensures .0 in
+    (h .good, (rw (keeps-count m (f .last .0) (s .pre .0) (f .ensures .1)) (s .pre .1 .1 .0), once-left m (s .args .r) (s .args .once) (s .pre .1 .1 .1) (f .last .0) h))
 
 returns-2 : tie.Need-returns-2
 returns-2 c =
     let s = c .before .before .before .before .before .before .before .before .before .before in
-    let found = c .before .before .before .before .before .before .before .place-of in
-    let i = c .before .before .before .before .before .found .given .0 .0 in
-    let m = s .args .model .now in
-    let h = c .before .before .remove-item .ensures in
-    let at = place-within _ _ i (found .result) (found .ensures) (c .before .before .before .before .before .found .given .1) in (
-      out-some m (c .before .before .remove-item .last .0) (s .args .e .0) (s .args .p .0) i (found .result) (found .ensures) (c .before .before .before .before .before .found .given .1) h,
-      λ n texts f. fits-remove f (s .args .p .0) i (s .pre .1) at h,
-    )
+    let a = s .args in
+    let f = c .before .before .before .before .before .before .remove-run in
+    let p = c .before .before .find-place in
+    leads-none (a .model .now) (a .r) (a .once) (s .pre .1 .1 .1) (f .last .0) (f .ensures .0) (a .e .0) (a .p .0) _ refl (f .ensures .1) (p .result) (p .ensures) (c .enum-told .given .1) refl refl
+
+returns-3 : tie.Need-returns-3
+returns-3 c =
+    let s = c .before .before .before .before .before .before .before .before .before .before .before in
+    let a = s .args in
+    let f = c .before .before .before .before .before .before .before .remove-run in
+    let p = c .before .before .before .find-place in
+    leads-one (a .model .now) (a .r) (a .once) (s .pre .1 .1 .1) (f .last .0) (f .ensures .0) (a .e .0) (a .p .0) _ refl (f .ensures .1) (p .result) (p .ensures) (c .before .found .given .0 .0) (c .before .found .given .1) refl refl
 
 pub take-out-spec : {M : Type 1} → statement M
 take-out-spec =
     tie.close
     (tie.spec
     (λ c κs. search needs)
-    (λ c. search needs)
-    (λ c. search needs)
+    sub-i
+    add-k
     (λ c. search needs)
     returns
-    remove-item-requires
+    (λ c κs. search needs)
+    find-place-requires
     (λ c. search needs)
-    returns-2)
+    (λ c. search needs)
+    (λ c. search needs)
+    returns-2
+    (λ c. search needs)
+    returns-3)

@@ -1,72 +1,76 @@
 use Rattle.tables.specs.SetCells.{setIs}
 use Rattle.tables.specs.ModelTable.{parentIs}
-use Rattle.changes.proofs.Laws.Undo.{undo-parent-asks, undo-set-asks, undo-import, keeps-undone-import, undo-restriction, undo-extension, keeps-set}
+use Rattle.changes.proofs.Laws.Undo.{undo-parent-asks, undo-set-asks, undo-import, undo-restriction, undo-extension}
 use borrow.Author.Needs.{needs}
 use Rattle.changes.proofs.log.undo_entry.Statement.{statement}
 use Rattle.changes.proofs.log.undo_entry.Tie as tie
 
 take-out-requires : tie.Need-take-out-requires
 take-out-requires c κs =
-    let h = rw (c .before .before .a .given .1) at (c .before .before .before .before .before .pre .1) in
-    (c .before .before .before .before .before .pre .0, h .1)
+    let pre = c .before .before .before .before .before .pre in
+    let h = rw (c .before .before .a .given .1) at (pre .1 .1 .0) in
+    (pre .0, (pre .1 .0, (h .1, pre .1 .1 .1)))
 
 set-parent-requires : tie.Need-set-parent-requires
 set-parent-requires c κs =
     let g = c .before .before .before .before .before .before .a .given in
-    let h = rw (g .1) at (c .before .before .before .before .before .before .before .before .before .pre .1) in
+    let s = c .before .before .before .before .before .before .before .before .before in
+    let h = rw (g .1) at (s .pre .1 .1 .0) in
     let t = c .before .before .before .take-out in
-    let r = undo-parent-asks (c .before .before .before .before .before .before .before .before .before .args .model .now) (t .last .0) (g .0 .0 .0) (g .0 .1 .0 .0) (parentIs (g .0 .1 .1 .0)) (c .before .before .before .before .before .before .before .before .before .pre .0) (t .ensures .1) (t .ensures .0) (h .0) (h .2) in
+    let r = undo-parent-asks (s .args .model .now) (t .last .0) (g .0 .0 .0) (parentIs (g .0 .1 .1 .0)) (s .pre .0) (t .ensures .keeps) (t .ensures .good) (h .0) (h .2) in
     (r .0, (r .1, r .2))
 
 set-set-requires : tie.Need-set-set-requires
 set-set-requires c κs =
     let g = c .before .before .before .before .before .before .before .before .before .before .a .given in
-    let h = rw (g .1) at (c .before .before .before .before .before .before .before .before .before .before .before .before .before .pre .1) in
+    let s = c .before .before .before .before .before .before .before .before .before .before .before .before .before in
+    let h = rw (g .1) at (s .pre .1 .1 .0) in
     let t = c .before .before .before .before .before .before .before .take-out in
     let p = c .before .before .before .set-parent in
-    undo-set-asks (c .before .before .before .before .before .before .before .before .before .before .before .before .before .args .model .now) (t .last .0) (p .last .0) (g .0 .0 .0) (parentIs (g .0 .1 .1 .0)) (c .before .before .before .before .before .before .before .before .before .before .before .before .before .pre .0) (t .ensures .1) (p .ensures) (h .0)
+    undo-set-asks (s .args .model .now) (t .last .0) (p .last .0) (g .0 .0 .0) (parentIs (g .0 .1 .1 .0)) (s .pre .0) (t .ensures .keeps) (p .ensures) (h .0)
 
 set-set-requires-2 : tie.Need-set-set-requires-2
 set-set-requires-2 c κs =
-    let h = rw (c .before .before .a2 .given .1) at (c .before .before .before .before .before .pre .1) in
-    (c .before .before .before .before .before .pre .0, h)
+    let pre = c .before .before .before .before .before .pre in
+    let h = rw (c .before .before .a2 .given .1) at (pre .1 .1 .0) in
+    (pre .0, h)
 
 set-of-requires : tie.Need-set-of-requires
 set-of-requires c κs =
-    let h = rw (c .before .before .a3 .given .1) at (c .before .before .before .before .before .pre .1) in
-    (c .before .before .before .before .before .pre .0, h .0)
+    let pre = c .before .before .before .before .before .pre in
+    let h = rw (c .before .before .a3 .given .1) at (pre .1 .1 .0) in
+    (pre .0, h .0)
 
 set-set-requires-3 : tie.Need-set-set-requires-3
 set-set-requires-3 c κs =
-    let h = rw (c .before .before .before .before .before .a3 .given .1) at (c .before .before .before .before .before .before .before .before .pre .1) in
-    (c .before .before .before .before .before .before .before .before .pre .0, h .0)
+    let pre = c .before .before .before .before .before .before .before .before .pre in
+    let h = rw (c .before .before .before .before .before .a3 .given .1) at (pre .1 .1 .0) in
+    (pre .0, h .0)
 
 returns : tie.Need-returns
 returns c =
     let g = c .before .before .before .before .before .before .before .before .before .before .before .before .before .a .given in
+    let s = c .before .before .before .before .before .before .before .before .before .before .before .before .before .before .before .before in
     let t = c .before .before .before .before .before .before .before .before .before .before .take-out in
     let p = c .before .before .before .before .before .before .set-parent in
-    let s = c .before .before .set-set in
-    let m = c .before .before .before .before .before .before .before .before .before .before .before .before .before .before .before .before .args .model .now in (
-      rw (g .1) (undo-import m (t .last .0) (p .last .0) (s .last .0) (g .0 .0 .0) (g .0 .1 .0 .0) (parentIs (g .0 .1 .1 .0)) (setIs (g .0 .1 .1 .1 .0)) (t .ensures .0) (p .ensures) (s .ensures)),
-      keeps-undone-import m (t .last .0) (p .last .0) (s .last .0) (g .0 .0 .0) (parentIs (g .0 .1 .1 .0)) (setIs (g .0 .1 .1 .1 .0)) (t .ensures .1) (p .ensures) (s .ensures),
-    )
+    let k = c .before .before .set-set in
+    rw (g .1) (undo-import (s .args .model .now) (s .args .once) (s .args .r) (t .last .0) (p .last .0) (k .last .0) (t .result) (g .0 .0 .0) (g .0 .1 .0 .0) (parentIs (g .0 .1 .1 .0)) (setIs (g .0 .1 .1 .1 .0)) (t .ensures) (p .ensures) (k .ensures))
 
 returns-2 : tie.Need-returns-2
 returns-2 c =
     let g = c .before .before .before .before .before .a2 .given in
-    let s = c .before .before .set-set2 in
-    let m = c .before .before .before .before .before .before .before .before .args .model .now in
-    (rw (g .1) (undo-restriction m (s .last .0) (g .0 .0 .0) (setIs (g .0 .1 .0)) (s .ensures)), keeps-set m (s .last .0) (g .0 .0 .0) (setIs (g .0 .1 .0)) (s .ensures))
+    let s = c .before .before .before .before .before .before .before .before in
+    let k = c .before .before .set-set2 in
+    rw (g .1) (undo-restriction (s .args .model .now) (s .args .once) (s .args .r) (s .pre .1 .0) (s .pre .1 .1 .1) (k .last .0) (g .0 .0 .0) (setIs (g .0 .1 .0)) (k .ensures))
 
 returns-3 : tie.Need-returns-3
 returns-3 c =
     let g = c .before .before .before .before .before .before .before .before .a3 .given in
-    let s = c .before .before .set-set3 in
-    let m = c .before .before .before .before .before .before .before .before .before .before .before .args .model .now in (
-      rw (g .1) (undo-extension m (s .last .0) (g .0 .0 .0) (g .0 .1 .0 .0) (setIs (c .before .before .before .before .before .set-of .result)) (setIs (c .before .before .before .before .without .result)) (c .before .before .before .before .before .set-of .ensures) (c .before .before .before .before .without .ensures) (s .ensures)),
-      keeps-set m (s .last .0) (g .0 .0 .0) (setIs (c .before .before .before .before .without .result)) (s .ensures),
-    )
+    let s = c .before .before .before .before .before .before .before .before .before .before .before in
+    let k = c .before .before .set-set3 in
+    let old = c .before .before .before .before .before .set-of in
+    let less = c .before .before .before .before .without in
+    rw (g .1) (undo-extension (s .args .model .now) (s .args .once) (s .args .r) (s .pre .1 .0) (s .pre .1 .1 .1) (k .last .0) (g .0 .0 .0) (setIs (less .result)) (k .ensures) (g .0 .1 .0 .0) (setIs (old .result)) (old .ensures) (less .ensures))
 
 pub undo-entry-spec : {M : Type 1} → statement M
 undo-entry-spec =

@@ -7,7 +7,7 @@ use native.Mathlib.Omega.{arith}
 use Rattle.tables.specs.Paths.{front}
 use Rattle.deck.specs.Answers.{pathIs, numIs}
 use Rattle.deck.proofs.Laws.Numbers.{number-most}
-use Rattle.deck.proofs.Laws.PathFields.{PathReading, path-start, path-bad, path-last, path-turn, path-full}
+use Rattle.deck.proofs.Laws.PathFields.{PathReading, path-start, path-bad, path-last, path-turn, path-full, put-some}
 use borrow.Author.Needs.{needs}
 use Rattle.deck.proofs.fields.path_field.Statement.{statement}
 use Rattle.deck.proofs.fields.path_field.Tie as tie
@@ -42,7 +42,7 @@ returns-2 c =
     let v = c .before .before .before in
     let l = v .before .before .before .before .before .before in
     let s = l .before .before in
-    record { is = sym (path-last (s .args .deck .now) (s .args .start) (s .args .end) (s .args .most) (l .loop .p) (l .loop .n) (l .loop .at) (v .before .before .before .before .find-byte .result) (omega arith) (l .loop .inv) (omega arith) (v .before .before .before .before .find-byte .ensures) (v .v .given .0 .0) (sym (v .before .before .number .ensures) ∙ ap numIs (v .v .given .1)) (c .before .with-part .result) (c .before .with-part .ensures .is) (c .if1 .taken)); fits = c .before .with-part .ensures .fits }
+    record { is = sym (path-last (s .args .deck .now) (s .args .start) (s .args .end) (s .args .most) (l .loop .p) (l .loop .n) (l .loop .at) (v .before .before .before .before .find-byte .result) (omega arith) (l .loop .inv) (omega arith) (v .before .before .before .before .find-byte .ensures) (v .v .given .0 .0) (sym (v .before .before .number .ensures) ∙ ap numIs (v .v .given .1)) (c .before .with-part .result) (c .before .with-part .ensures) (c .if1 .taken)); fits = put-some (l .loop .p) (c .before .with-part .result) (v .v .given .0 .0) (c .before .with-part .ensures) }
 
 loop-again : tie.Need-loop-again Inv-loop μ-loop
 unfolding numIs
@@ -50,7 +50,7 @@ loop-again c =
     let v = c .before .before .before in
     let l = v .before .before .before .before .before .before in
     let s = l .before .before in
-    path-turn (s .args .deck .now) (s .args .start) (s .args .end) (s .args .most) (l .loop .p) (l .loop .n) (l .loop .at) (v .before .before .before .before .find-byte .result) (omega arith) (l .loop .inv) (omega arith) (v .before .before .before .before .find-byte .ensures) (v .v .given .0 .0) (sym (v .before .before .number .ensures) ∙ ap numIs (v .v .given .1)) (c .before .with-part .result) (c .before .with-part .ensures .is) (omega arith)
+    path-turn (s .args .deck .now) (s .args .start) (s .args .end) (s .args .most) (l .loop .p) (l .loop .n) (l .loop .at) (v .before .before .before .before .find-byte .result) (omega arith) (l .loop .inv) (omega arith) (v .before .before .before .before .find-byte .ensures) (v .v .given .0 .0) (sym (v .before .before .number .ensures) ∙ ap numIs (v .v .given .1)) (c .before .with-part .result) (c .before .with-part .ensures) (omega arith)
 
 returns-3 : tie.Need-returns-3 Inv-loop μ-loop
 unfolding pathIs

@@ -40,7 +40,7 @@ returns-5 c =
     let path = mode .before .before .before .before in
     let ty = path .before .before .before .before in
     let s = ty .before .before .before .before in
-    record { is = rw (← ty .before .before .number-at .ensures, ty .ty .given .1, ← path .before .before .path-at .ensures .is, path .path .given .1, ← mode .before .before .number-at2 .ensures, mode .mode .given .1, fields-count (s .args .deck .now) (s .args .f) (s .pre), eq-eqb _ 4 (c .if1 .left)); fits = (omega (arith, read-most 10 3 _ _ _ (mode .before .before .number-at2 .ensures) (mode .mode .given .1)), rw (path .path .given .1) at (path .before .before .path-at .ensures .fits)) }
+    record { is = rw (← ty .before .before .number-at .ensures, ty .ty .given .1, ← path .before .before .path-at .ensures .is, path .path .given .1, ← mode .before .before .number-at2 .ensures, mode .mode .given .1, fields-count (s .args .deck .now) (s .args .f) (s .pre), eq-eqb _ 4 (c .if1 .left)); fits = omega (arith, read-most 10 3 _ _ _ (mode .before .before .number-at2 .ensures) (mode .mode .given .1)) }
 
 pub line-g-spec : {M : Type 1} → statement M
 line-g-spec =

@@ -1,3 +1,4 @@
+use mathlib.Core.Bool.{false≢true}
 use mathlib.Core.Path.{_∙_}
 use Rattle.tables.specs.SetCells.{setIs}
 use Rattle.state_test.specs.StateTest.{fixedIn, stateIn}
@@ -9,7 +10,7 @@ use Rattle.level.proofs.settle.fall_back.Tie as tie
 rollback-merge-requires : tie.Need-rollback-merge-requires
 rollback-merge-requires c κs =
     let g = c .before .before .before .before .before .before .pre .1 .1 .1 .0 in
-    (g .modelFits .good, (g .logFits .good, rw (g .modelFits .same) (g .logFits .entries)))
+    (g .modelFits .good, (g .logFits .good, (rw (g .modelFits .same) (g .logFits .entries), λ once. absurd (false≢true once))))
 
 restrict-requires : tie.Need-restrict-requires
 restrict-requires c κs =

@@ -20,7 +20,7 @@ load-g-requires c κs =
 load-s-requires : tie.Need-load-s-requires
 load-s-requires c κs =
     let b = c .before .before .before .before .before .before .before in
-    (b .pre .0 .goodSchema, subst lineFits (c .before .before .line3 .given .1) (b .pre .1))
+    (b .pre .0 .goodSchema, (subst lineFits (c .before .before .line3 .given .1) (b .pre .1), b .pre .0 .fits .closed))
 
 load-f-requires : tie.Need-load-f-requires
 load-f-requires c κs =

@@ -40,7 +40,7 @@ returns-3 c elements model g =
     (c .take-line .ensures .0, c .take-line .ensures .1 ∙ c .before .after .ensures)
     g
     (c .before .before .before .before .add-file .ensures)
-    (fits-file _ (g .fits) 3 _ (b .pre .1 .0 .0) new)
+    (fits-file _ (g .fits) _ (b .pre .1 .0 .0) new)
     (f-taken _ _ (c .before .before .before .before .before .before .before .before .before .if1 .left) below)
 
 pub load-f-spec : {M : Type 1} → statement M

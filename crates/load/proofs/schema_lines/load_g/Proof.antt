@@ -42,7 +42,7 @@ returns-4 c elements model g =
     (c .take-line .ensures .0, c .take-line .ensures .1 ∙ c .before .after .ensures)
     g
     (c .before .before .before .before .add-group .ensures)
-    (fits-group _ (g .fits) 1 _)
+    (fits-group _ (g .fits) _ (c .before .before .before .before .before .before .before .before .before .before .if1 .left) rule)
     (g-row _ _ ∙ row-taken _ _ _ _ _ _ (c .before .before .before .before .before .before .before .before .before .before .if1 .left) (rw n at (c .before .before .before .before .before .before .before .before .before .if2 .left)) rule)
 
 pub load-g-spec : {M : Type 1} → statement M

@@ -32,7 +32,7 @@ returns-4 c elements model g =
     (c .take-line .ensures .0, c .take-line .ensures .1 ∙ c .before .after .ensures)
     g
     (c .before .before .before .before .add-type .ensures)
-    (fits-type _ (g .fits) 0 _)
+    (fits-type _ (g .fits) _ (c .before .before .before .before .before .before .before .before .before .before .before .before .before .if1 .left))
     (t-taken _ _ _ (c .before .before .before .before .before .before .before .before .before .before .before .before .before .if1 .left) (c .before .before .before .before .before .before .before .before .before .if2 .left ∙ c .before .before .before .before .before .before .before .before .before .before .before .type-count .ensures) (c .before .before .before .before .before .before .before .if3 .left))
 
 pub load-t-spec : {M : Type 1} → statement M

@@ -6,7 +6,7 @@ use Rattle.state_test.specs.StateTest.{lentTablesPass}
 use Rattle.state_test.proofs.Laws.Answers.{passed, failed}
 use Rattle.table_test.specs.Fits.{StateOver}
 use Rattle.tables.specs.LogTable.{logOf}
-use Rattle.merge.proofs.Laws.Calls.{lent-state, rollback-bad, no-mark, mark-low, rolled-back}
+use Rattle.merge.proofs.Laws.Calls.{lent-state, lent-once, rollback-bad, no-mark, mark-low, rolled-back}
 use borrow.Author.Needs.{needs}
 use Rattle.merge.proofs.calls.rollback.Statement.{statement}
 use Rattle.merge.proofs.calls.rollback.Tie as tie
@@ -38,7 +38,9 @@ log-length-requires c κs = fits (c .before .before .before .before) .logFits .g
 rollback-merge-requires : tie.Need-rollback-merge-requires
 rollback-merge-requires c κs =
     let g = fits (c .before .before .before .before .before .before .before) in
-    (g .modelFits .good, (g .logFits .good, rw (g .modelFits .same) (g .logFits .entries)))
+    let a = c .before .before .before .before .before .before .before .before .before .before .before .before .before .before .before .before .args in
+    let once = lent-once (a .deck .now) (a .schema .now) (a .elements .now) (a .model .now) (a .log .now) (pass (c .before .before .before .before .before .before .before)) in
+    (g .modelFits .good, (g .logFits .good, (rw (g .modelFits .same) (g .logFits .entries), λ _. once)))
 
 sub-t25 : tie.Need-sub-t25
 sub-t25 c =

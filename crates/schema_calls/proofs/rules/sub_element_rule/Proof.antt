@@ -2,7 +2,7 @@
 use borrow.Author.Tests.{not-true, not-false}
 use Rattle.tables.specs.SchemaTable.{schemaOf}
 use Rattle.deck.specs.Answers.{rowIs}
-use Rattle.schema_calls.proofs.Laws.Rules.{sub-path-invalid, sub-child-not, sub-meets, sub-begins}
+use Rattle.schema_calls.proofs.Laws.Rules.{sub-path-invalid, sub-child-not, sub-meets, sub-group}
 use borrow.Author.Needs.{needs}
 use Rattle.schema_calls.proofs.rules.sub_element_rule.Statement.{statement}
 use Rattle.schema_calls.proofs.rules.sub_element_rule.Tie as tie
@@ -36,7 +36,9 @@ returns-3 c =
     (not-false (valid .result) (c .before .before .before .before .if1 .left))
     (child .ensures)
     (not-false (child .result) (c .before .before .if2 .left))
-    (c .before .rows-meet-any .ensures)
+    (search needs)
+    (search needs)
+    (c .before .rows-meet .ensures)
     (c .if3 .taken)
 
 returns-4 : tie.Need-returns-4
@@ -45,13 +47,15 @@ returns-4 c =
     let groups = c .before .before .before .before .before .before .before .group-count in
     let valid = c .before .before .before .before .before .before .path-valid in
     let child = c .before .before .before .before .type-declared in
-    sub-begins (schemaOf (s .schema .now)) (s .above) (rowIs (s .c)) (groups .result) (groups .ensures) (valid .ensures)
+    sub-group (schemaOf (s .schema .now)) (s .above) (rowIs (s .c)) (groups .result) (groups .ensures) (valid .ensures)
     (not-false (valid .result) (c .before .before .before .before .before .if1 .left))
     (child .ensures)
     (not-false (child .result) (c .before .before .before .if2 .left))
-    (c .before .before .rows-meet-any .ensures)
+    (search needs)
+    (search needs)
+    (c .before .before .rows-meet .ensures)
     (c .before .if3 .left)
-    (c .begins-group-any .ensures)
+    (c .has-group .ensures)
 
 pub sub-element-rule-spec : {M : Type 1} → statement M
 sub-element-rule-spec =

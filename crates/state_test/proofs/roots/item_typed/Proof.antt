@@ -6,15 +6,16 @@ use Rattle.state_test.proofs.roots.item_typed.Tie as tie
 
 child-typed-requires : tie.Need-child-typed-requires
 child-typed-requires c κs =
-    let h = rw (c .before .a .given .1) at (c .before .before .before .before .before .pre .1 .1 .1) in
-    search needs
+    let p = c .before .before .before .before .before .pre in
+    let h = rw (c .before .a .given .1) at (p .1 .1 .1 .0) in
+    (p .0, (p .1 .0, (p .1 .1 .0, (h, p .1 .1 .1 .1))))
 
 returns : tie.Need-returns
-returns c = λ deck. rw (c .before .before .a .given .1) (c .child-typed .ensures deck)
+returns c = (λ deck. rw (c .before .before .a .given .1) (c .child-typed .ensures .0 deck), c .child-typed .ensures .1)
 
 returns-2 : tie.Need-returns-2
 unfolding itemTyped
-returns-2 c = λ deck. rw (c .enum-told .given .1)
+returns-2 c = (λ deck. rw (c .enum-told .given .1), search needs)
 
 pub item-typed-spec : {M : Type 1} → statement M
 item-typed-spec =

@@ -25,7 +25,7 @@ returns c =
 files-declared-requires : tie.Need-files-declared-requires
 files-declared-requires c κs =
     let g = c .before .before .before .before .before .before .pre in
-    (g .0, (g .1 .0, (g .1 .1 .0, (g .1 .1 .1 .0, (g .1 .1 .1 .1 .0, g .1 .1 .1 .1 .1 .0)))))
+    (g .0, (g .1 .1 .0, (g .1 .1 .1 .0, (g .1 .1 .1 .1 .0, (g .1 .1 .1 .1 .1 .0, g .1 .1 .1 .1 .1 .1 .0)))))
 
 returns-2 : tie.Need-returns-2
 returns-2 c =
@@ -40,7 +40,7 @@ returns-3 c =
 lists-typed-requires : tie.Need-lists-typed-requires
 lists-typed-requires c κs =
     let g = c .before .before .before .before .before .before .before .before .before .before .pre in
-    (g .0, (g .1 .1 .0, (g .1 .1 .1 .1 .0, g .1 .1 .1 .1 .1 .1)))
+    (g .0, (g .1 .1 .1 .0, (g .1 .1 .1 .1 .1 .0, g .1 .1 .1 .1 .1 .1 .1)))
 
 returns-4 : tie.Need-returns-4
 returns-4 c =

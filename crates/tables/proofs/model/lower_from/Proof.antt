@@ -12,10 +12,10 @@ use Rattle.tables.proofs.model.lower_from.Statement.{statement}
 use Rattle.tables.proofs.model.lower_from.Tie as tie
 
 abbrev Inv-loop : tie.InvT-loop
-Inv-loop s₀ i j₀ s j = (onFrom (λ (x : ℕ). x - 1) s j ≡ onFrom (λ (x : ℕ). x - 1) s₀ i) × (length s ≡ length s₀) × ((k : ℕ) → j ≤ k → k < length s₀ → 0 < getD s k 0)
+Inv-loop s₀ i k j₀ s j = (onFrom (λ (x : ℕ). x - k) s j ≡ onFrom (λ (x : ℕ). x - k) s₀ i) × (length s ≡ length s₀) × ((n : ℕ) → j ≤ n → n < length s₀ → k ≤ getD s n 0)
 
 abbrev μ-loop : tie.MeasureT-loop
-μ-loop s₀ i j₀ s j = length s₀ - j
+μ-loop s₀ i k j₀ s j = length s₀ - j
 
 loop-holds : tie.Need-loop-holds Inv-loop μ-loop
 loop-holds c = (refl, refl, c .pre)
@@ -25,16 +25,17 @@ sub-s c = omega (arith, c .before .before .loop .inv .2 (c .before .before .loop
 
 loop-again : tie.Need-loop-again Inv-loop μ-loop
 loop-again c =
-    let l = c .before .before .loop in (
-      onFrom-turn (λ (x : ℕ). x - 1) (l .s) (l .j) (c .before .loop-test .taken) ∙ l .inv .0,
+    let l = c .before .before .loop in
+    let k = c .before .before .before .args .k in (
+      onFrom-turn (λ (x : ℕ). x - k) (l .s) (l .j) (c .before .loop-test .taken) ∙ l .inv .0,
       simp length-set (l .inv .1),
-      λ k h b. rw (getD-set-other (l .s) (l .j) k (getD (l .s) (l .j) 0 - 1) 0 (omega arith)) (l .inv .2 k (omega arith) b),
+      λ n h b. rw (getD-set-other (l .s) (l .j) n (getD (l .s) (l .j) 0 - k) 0 (omega arith)) (l .inv .2 n (omega arith) b),
     )
 
 returns : tie.Need-returns Inv-loop μ-loop
 returns c =
     let l = c .before .loop in
-    sym (onFrom-past (λ (x : ℕ). x - 1) (l .s) (l .j) (c .loop-test .left)) ∙ l .inv .0
+    sym (onFrom-past (λ (x : ℕ). x - c .before .before .args .k) (l .s) (l .j) (c .loop-test .left)) ∙ l .inv .0
 
 pub lower-from-spec : {M : Type 1} → statement M
 lower-from-spec =
