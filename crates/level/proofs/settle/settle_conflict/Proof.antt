@@ -1,3 +1,4 @@
+use mathlib.Core.Bool.{false≢true}
 use mathlib.Core.Path.{_∙_}
 use Rattle.tables.specs.SetCells.{setIs}
 use Rattle.state_test.specs.StateTest.{fixedIn, stateIn}
