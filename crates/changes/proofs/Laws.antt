@@ -2,6 +2,8 @@ pub mod Log
 pub mod Once
 pub mod Places
 pub mod Runs
+pub mod Entering
+pub mod Together
 pub mod Undo
 pub mod Imports
 pub mod Range

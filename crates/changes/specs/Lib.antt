@@ -1,4 +1,5 @@
 pub mod Answers
+pub mod Imports
 pub mod Places
 pub mod Range
 pub mod Runs

@@ -3,7 +3,7 @@ use mathlib.Core.List.{List}
 use mathlib.Core.Path.{_≡_}
 use Prim.Native.Nat.{ℕ, _+_, _≤_, Ordering, Ordering·lt, Ordering·eq, Ordering·gt}
 use lib.ListN.{length, getD}
-use Rattle.tables.specs.Records.{Fixed, Item, child, text, nameOf, typeOf, listOf}
+use Rattle.tables.specs.Records.{Fixed, Mode, sequence, choice, bag, mixed, characters, Item, child, text, typeRow, nameOf, typeOf, listOf}
 use Rattle.tables.specs.ElementsTable.{elementsOf}
 use Rattle.tables.specs.ModelTable.{modelOf}
 use Rattle.tables.specs.SchemaTable.{schemaOf, modeFrom, multNumber, multFrom, noSubElement}
@@ -77,3 +77,15 @@ PlacesIn n Conflicting = Unit {0}
 pub record Ranges (schema elements model : List ℕ) (p n v : ℕ) (r : program.Range) : Type 0 where
   pub is : (deck : List ℕ) → rangeIs r ≡ calcElementInsertRange (fixedIn deck schema elements) (modelOf model) p n v
   pub within : PlacesIn (length (listOf (modelOf model) p)) r
+
+-- Bag, mixed: an element may stand at any place.
+abbrev pub AnyPlaceIn : Mode → Type 0
+AnyPlaceIn sequence = ⊥
+AnyPlaceIn choice = ⊥
+AnyPlaceIn bag = Unit {0}
+AnyPlaceIn mixed = Unit {0}
+AnyPlaceIn characters = ⊥
+
+-- the list of p is of such a mode
+abbrev pub AnyPlace : List ℕ → List ℕ → ℕ → Type 0
+AnyPlace schema elements p = AnyPlaceIn (typeRow (schemaOf schema) (getD (elementsOf elements .types) p 0) .mode)

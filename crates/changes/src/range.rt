@@ -16,6 +16,7 @@ use tables::schema::row_mult;
 use tables::schema::row_name;
 use tables::schema::row_path;
 use tables::schema::type_mode;
+ghost use mathlib.Core.Bool.{true};
 ghost use mathlib.Core.List.{List};
 ghost use mathlib.Core.Path.{_≡_};
 ghost use Prim.Native.Nat.{ℕ, _<_};
@@ -29,7 +30,7 @@ ghost use Rattle.tables.specs.SchemaTable.{schemaOf, GoodSchema, modeFrom, mult
 ghost use Rattle.state_test.specs.StateTest.{fixedIn};
 ghost use Rattle.merge_rules.specs.Range.{equalPath, moveBy, readContent};
 ghost use Rattle.table_test.specs.Fits.{ModelOver};
-ghost use Rattle.changes.specs.Range.{orderingIs, moveIs, moveOf, boundsAfter, Compares, nameOr, Moves, rangeIs, Ranges};
+ghost use Rattle.changes.specs.Range.{orderingIs, moveIs, moveOf, boundsAfter, Compares, nameOr, Moves, rangeIs, Ranges, AnyPlace};
 
 // The first and last place; no row of the name in the version; a conflict.
 pub enum Range {
@@ -244,5 +245,21 @@ pub fn calc_element_insert_range(
         0 | 1 => read_content(schema, elements, model, p, new),
         2 | 3 => Range::Places(0, list_length(model, p)),
         _ => Range::NoRow,
+    }
+}
+
+// An element of a name with a row may stand at any place in the list of p.
+pub fn takes_any_place(schema: &[u64], elements: &[u64], p: Element) -> bool
+    requires { ⌜ GoodSchema (now schema) ⌝ }
+    requires { ⌜ GoodElements (now elements) ⌝ }
+    requires { ⌜ Each (λ (t : ℕ). t < length (schemaOf (now schema) .types)) (elementsOf (now elements) .types) ⌝ }
+    requires { ⌜ p .0 < length (elementsOf (now elements) .names) ⌝ }
+    ensures { λ r. ⌜ (r ≡ true → AnyPlace (now (schema .entry)) (now (elements .entry)) (p .0)) ⌝ }
+{
+    let t = element_type(elements, p);
+    let mode = type_mode(schema, t);
+    match mode {
+        2 | 3 => true,
+        _ => false,
     }
 }

@@ -1,13 +1,10 @@
 // The four tables, one behind the other in one slice, and what both tests say of them.
 
+use forging::table::put;
+use forging::table::reindex_all;
 use state_test::state;
-use table_test::index_test::fill_index;
 use table_test::test;
 use tables::elements::ELEMENTS_SIZE;
-use tables::index::INDEX_SIZE;
-use tables::index::Index;
-use tables::limits::GROUP_LIMIT;
-use tables::limits::ROW_LIMIT;
 use tables::log::LOG_SIZE;
 use tables::model::MODEL_SIZE;
 use tables::schema::SCHEMA_SIZE;
@@ -24,59 +21,18 @@ pub const CELLS: usize = LOG + LOG_SIZE;
 // Bytes of the deck that texts are held to.
 pub const DECK: usize = 200;
 
-// The value at this offset from a place, for the one there.
-fn exchange(t: &mut [u64], from: usize, offset: usize, v: u64) -> u64 {
-    if t.len() <= from {
-        return 0;
-    }
-    if t.len() - from <= offset {
-        return 0;
-    }
-    let at = from + offset;
-    let old = t[at];
-    t[at] = v;
-    old
-}
-
-// Values from a place on.
-pub fn put(t: &mut [u64], from: usize, values: &[u64]) {
-    let mut i: usize = 0;
-    while i < values.len() {
-        exchange(t, from, i, values[i]);
-        i += 1;
-    }
-}
-
-// An index of a schema table built anew, where the counts are in their range.
-fn reindex(schema: &mut [u64], x: Index) {
-    if schema.len() != SCHEMA_SIZE {
-        return;
-    }
-    if GROUP_LIMIT < schema[1] as usize {
-        return;
-    }
-    if ROW_LIMIT < schema[2] as usize {
-        return;
-    }
-    let mut cells = [0u64; INDEX_SIZE];
-    fill_index(&mut cells, schema, x);
-    put(schema, x.at(), &cells);
-}
-
-fn reindex_all(schema: &mut [u64]) {
-    reindex(schema, Index::Groups);
-    reindex(schema, Index::Names);
-    reindex(schema, Index::Paths);
-}
-
-// The value for the one at this offset, and the indexes that fit it; put once more behind them, since it may be a cell of theirs.
-fn exchange_indexed(t: &mut [u64], from: usize, offset: usize, v: u64) -> u64 {
+// The value for the one at a place, and the indexes that fit it; put once more behind them, since it may be a cell of theirs.
+fn exchange(t: &mut [u64], at: usize, v: u64) -> u64 {
     if t.len() != CELLS {
         return 0;
     }
-    let old = exchange(t, from, offset, v);
+    if CELLS <= at {
+        return 0;
+    }
+    let old = t[at];
+    put(t, at, &[v]);
     reindex_all(&mut t[0..ELEMENTS]);
-    exchange(t, from, offset, v);
+    put(t, at, &[v]);
     old
 }
 
@@ -114,10 +70,10 @@ pub fn ask(n: u64, t: &[u64]) {
 pub fn forge(t: &mut [u64], n: u64, from: usize, cases: &[u64]) {
     let mut i: usize = 0;
     while i < cases.len() / 2 {
-        let offset = cases[i * 2] as usize;
-        let old = exchange_indexed(t, from, offset, cases[i * 2 + 1]);
+        let at = std::num::wrapping_add_usize(from, cases[i * 2] as usize);
+        let old = exchange(t, at, cases[i * 2 + 1]);
         ask(std::num::wrapping_add_u64(n, i as u64), t);
-        exchange_indexed(t, from, offset, old);
+        exchange(t, at, old);
         i += 1;
     }
 }

@@ -55,6 +55,12 @@ pub record KeyMarks (key : Element → Option (List ℕ)) (l : List Element) (ma
   pub size : length marks ≡ length l
   pub each : (i : ℕ) → i < length l → getD marks i 0 ≡ keyMark (key (getD l i 0))
 
+-- the mark stands nowhere from one place up to another
+pub record NoMark (marks : List ℕ) (mark from to : ℕ) : Type 0 where
+  pub order : from ≤ to
+  pub within : to ≤ length marks
+  pub none : (i : ℕ) → from ≤ i → i < to → getD marks i 0 ≡ mark → ⊥
+
 -- ---- children
 
 abbrev pub childIs : Child → Option Element

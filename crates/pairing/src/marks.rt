@@ -4,16 +4,20 @@ use crate::keys::key_of;
 use crate::keys::span_of;
 use crate::plan::Sides;
 use tables::numbers::Element;
+ghost use mathlib.Core.Bool.{false};
 ghost use mathlib.Core.Path.{_≡_};
-ghost use Prim.Native.Nat.{_+_, _-_, _≤_};
-ghost use lib.ListN.{length, take};
+ghost use Prim.Native.Nat.{_+_, _-_, _<_, _≤_};
+ghost use lib.ListN.{length, getD, take};
 ghost use Rattle.tables.specs.ElementsTable.{elementsOf};
 ghost use Rattle.tables.specs.ModelTable.{modelOf};
 ghost use Rattle.state_test.specs.StateTest.{fixedIn};
 ghost use Rattle.table_test.specs.Fits.{GoodFixed, ModelOver};
 ghost use Rattle.pairing.specs.Actions.{Listed};
-ghost use Rattle.pairing.specs.Keys.{keyIs, KeyIn, keyBy, keyMark};
+ghost use Rattle.pairing.specs.Keys.{keyIs, KeyIn, keyBy, keyMark, NoMark};
 ghost use Rattle.pairing.specs.Walks.{secondChildren, WritesMarks, MarkRoom, Marked};
+
+// So many marks are looked at together.
+const BLOCK: usize = 16;
 
 pub fn key_mark(deck: &[u8], key: Key) -> u16
     requires { ⌜ KeyIn (now deck) key ⌝ }
@@ -80,4 +84,49 @@ pub fn mark_children(
     let definitions = names + (names - s.start);
     mark_keys(deck, schema, elements, model, true, work, s, names);
     mark_keys(deck, schema, elements, model, false, work, s, definitions);
+}
+
+// Whether the mark is among them. No way out at the first: so the compiler takes several at a time.
+fn any_marked(marks: &[u16], mark: u16) -> bool
+    ensures { λ r. ⌜ (r ≡ false → NoMark (now (marks .entry)) mark 0 (length (now (marks .entry)))) ⌝ }
+{
+    let mut found = false;
+    let mut j: usize = 0;
+    while j < marks.len() {
+        found = found | (marks[j] == mark);
+        j += 1;
+    }
+    found
+}
+
+// Blocks without the mark are passed over.
+fn skip_marks(marks: &[u16], from: usize, mark: u16) -> usize
+    requires { ⌜ from ≤ length (now marks) ⌝ }
+    ensures { λ r. ⌜ NoMark (now (marks .entry)) mark from r ⌝ }
+{
+    let mut k = from;
+    while k + BLOCK <= marks.len() {
+        let end = k + BLOCK;
+        if any_marked(&marks[k..end], mark) {
+            return k;
+        }
+        k = end;
+    }
+    k
+}
+
+// The first place of the mark from there on, or the end.
+pub fn next_marked(marks: &[u16], from: usize, mark: u16) -> usize
+    requires { ⌜ from ≤ length (now marks) ⌝ }
+    ensures { λ r. ⌜ NoMark (now (marks .entry)) mark from r ⌝ }
+    ensures { λ r. ⌜ (r < length (now (marks .entry)) → getD (now (marks .entry)) r 0 ≡ mark) ⌝ }
+{
+    let mut k = skip_marks(marks, from, mark);
+    while k < marks.len() {
+        if marks[k] == mark {
+            return k;
+        }
+        k += 1;
+    }
+    k
 }

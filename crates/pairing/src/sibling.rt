@@ -4,6 +4,7 @@ use crate::keys::Key;
 use crate::keys::key_of;
 use crate::keys::span_of;
 use crate::marks::key_mark;
+use crate::marks::next_marked;
 use tables::elements::element_name;
 use tables::numbers::Element;
 use tables::numbers::Name;
@@ -107,14 +108,11 @@ pub fn sibling(
     let size = span.size;
     let mut k: usize = 0;
     'siblings: loop {
-        if second.len() <= k {
+        let at = next_marked(marks, k, mark);
+        if second.len() <= at {
             break Child::Missing;
         }
-        let at = k;
-        k += 1;
-        if marks[at] != mark {
-            continue;
-        }
+        k = at + 1;
         let b = Element(second[at] as usize);
         let Candidate::From(s) = candidate_at(deck, schema, elements, model, by_name, n, key, b)
         else {

@@ -1,19 +1,15 @@
 // Tables with one number changed after the load: past its range, against a rule, or against neither.
 use crate::ask::ask;
 use crate::print::word;
-use crate::sizes::copy;
+use forging::table::put;
+use forging::table::reindex_all;
 use load::load::load;
-use table_test::index_test::fill_index;
 use tables::elements::ELEMENT_WIDTH;
 use tables::elements::ELEMENTS_AT;
 use tables::elements::ELEMENTS_SIZE;
 use tables::elements::TEXTS_AT;
 use tables::elements::TREES_AT;
 use tables::file_set::SET_WIDTH;
-use tables::index::INDEX_SIZE;
-use tables::index::Index;
-use tables::limits::GROUP_LIMIT;
-use tables::limits::ROW_LIMIT;
 use tables::log::ENTRIES_AT;
 use tables::log::ENTRY_WIDTH;
 use tables::log::LOG_SIZE;
@@ -43,24 +39,17 @@ const LOG: u64 = 3;
 // Where the last of the log's three entries begins.
 const LAST: usize = ENTRIES_AT + 2 * ENTRY_WIDTH;
 
-// The value at a cell, where the table has it.
-fn put(t: &mut [u64], at: usize, v: u64) {
-    if at < t.len() {
-        t[at] = v;
-    }
-}
-
 // An import of element 1 into 0, a restriction of element 2, an extension of element 0.
 fn put_log(log: &mut [u64]) {
-    put(log, 0, 3);
-    put(log, ENTRIES_AT + 1, 1);
-    put(log, ENTRIES_AT + 3, 1);
-    put(log, ENTRIES_AT + ENTRY_WIDTH, 1);
-    put(log, ENTRIES_AT + ENTRY_WIDTH + 1, 2);
-    put(log, ENTRIES_AT + ENTRY_WIDTH + OLD_SET_AT, 1);
-    put(log, LAST, 2);
+    put(log, 0, &[3]);
+    put(log, ENTRIES_AT, &[0, 1, 0, 1]);
+    put(log, ENTRIES_AT + ENTRY_WIDTH, &[1, 2]);
+    put(log, ENTRIES_AT + ENTRY_WIDTH + OLD_SET_AT, &[1]);
+    put(log, LAST, &[2]);
 }
 
+// The number put in. Of a schema also the indexes that fit it, so that a wrong number of a row is refused for itself; then once more, since it
+// may be a cell of theirs.
 fn put_in(
     schema: &mut [u64],
     elements: &mut [u64],
@@ -71,62 +60,26 @@ fn put_in(
     v: u64,
 ) {
     match table {
-        SCHEMA => put(schema, at, v),
-        ELEMENTS => put(elements, at, v),
-        MODEL => put(model, at, v),
-        _ => put(log, at, v),
+        SCHEMA => {
+            put(schema, at, &[v]);
+            reindex_all(schema);
+            put(schema, at, &[v]);
+        }
+        ELEMENTS => put(elements, at, &[v]),
+        MODEL => put(model, at, &[v]),
+        _ => put(log, at, &[v]),
     }
 }
 
-// An index of a schema table built anew, where the counts are in their range.
-fn reindex(schema: &mut [u64], x: Index) {
-    if schema.len() != SCHEMA_SIZE {
-        return;
-    }
-    if GROUP_LIMIT < schema[1] as usize {
-        return;
-    }
-    if ROW_LIMIT < schema[2] as usize {
-        return;
-    }
-    let mut cells = [0u64; INDEX_SIZE];
-    fill_index(&mut cells, schema, x);
-    let at = x.at();
-    copy(&mut schema[at..at + INDEX_SIZE], &cells);
-}
-
-fn reindex_all(schema: &mut [u64]) {
-    reindex(schema, Index::Groups);
-    reindex(schema, Index::Names);
-    reindex(schema, Index::Paths);
-}
-
-// The tables that load makes of the deck, with the log's entries and the number put in, and the indexes that fit it: so a wrong number of a
-// row is refused for itself. Put once more behind them, since it may be a cell of theirs.
-fn load_forged(
-    deck: &[u8],
-    schema: &mut [u64],
-    elements: &mut [u64],
-    model: &mut [u64],
-    log: &mut [u64],
-    table: u64,
-    at: usize,
-    v: u64,
-) {
-    load(deck, schema, elements, model, log);
-    put_log(log);
-    put_in(schema, elements, model, log, table, at, v);
-    reindex_all(schema);
-    put_in(schema, elements, model, log, table, at, v);
-}
-
+// Of the tables that load makes of the deck, with the log's entries and the number put in.
 fn forged(deck: &[u8], title: &[u8], table: u64, at: usize, v: u64) {
     let mut schema = [0u64; SCHEMA_SIZE];
     let mut elements = [0u64; ELEMENTS_SIZE];
     let mut model = [0u64; MODEL_SIZE];
     let mut log = [0u64; LOG_SIZE];
-    load_forged(
-        deck,
+    load(deck, &mut schema, &mut elements, &mut model, &mut log);
+    put_log(&mut log);
+    put_in(
         &mut schema,
         &mut elements,
         &mut model,

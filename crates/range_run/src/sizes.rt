@@ -1,29 +1,14 @@
 // Tables of no cell, of a cell too few and of a cell too many.
 use crate::ask::ask;
 use crate::print::word;
+use forging::table::put;
 use load::load::load;
 use tables::elements::ELEMENTS_SIZE;
 use tables::log::LOG_SIZE;
 use tables::model::MODEL_SIZE;
 use tables::schema::SCHEMA_SIZE;
 
-fn get(t: &[u64], at: usize) -> u64 {
-    if at < t.len() {
-        return t[at];
-    }
-    0
-}
-
-// As many cells as there is room for, and then zeros.
-pub fn copy(to: &mut [u64], from: &[u64]) {
-    let mut i: usize = 0;
-    while i < to.len() {
-        to[i] = get(from, i);
-        i += 1;
-    }
-}
-
-// One of the tables copied into another place and lent from there.
+// One of the tables put into a place of zeros, as far as there is room, and lent from there.
 fn lent(
     deck: &[u8],
     schema: &[u64],
@@ -35,19 +20,19 @@ fn lent(
 ) {
     match table {
         0 => {
-            copy(place, schema);
+            put(place, 0, schema);
             ask(deck, place, elements, model, log, 0, 5, 2);
         }
         1 => {
-            copy(place, elements);
+            put(place, 0, elements);
             ask(deck, schema, place, model, log, 0, 5, 2);
         }
         2 => {
-            copy(place, model);
+            put(place, 0, model);
             ask(deck, schema, elements, place, log, 0, 5, 2);
         }
         _ => {
-            copy(place, log);
+            put(place, 0, log);
             ask(deck, schema, elements, model, place, 0, 5, 2);
         }
     }

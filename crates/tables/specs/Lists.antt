@@ -1,10 +1,10 @@
 -- Operations on lists that the rules use and the library lacks. Assumes nothing.
 use mathlib.Core.Bool.{Bool, true, false}
-use mathlib.Core.List.{List, [], _∷_}
+use mathlib.Core.List.{List, [], _∷_, _++_}
 use mathlib.Core.Option.{Option, none, some}
 use Prim.Native.Nat.{ℕ, zero, suc, _+_}
 use lib.Dec.{eqb}
-use lib.ListN.{drop}
+use lib.ListN.{drop, replicate}
 
 module _ {ℓ} {A : Type ℓ} where
   -- some entry passes the test
@@ -33,6 +33,12 @@ module _ {ℓ} {A : Type ℓ} where
   removeAt [] i = []
   removeAt (x ∷ xs) zero = xs
   removeAt (x ∷ xs) (suc i) = x ∷ removeAt xs i
+
+  -- the entry k times at a place, pushing what stands there and behind it back by k; past the end, at the end
+  unfoldable pub insertRun : List A → ℕ → ℕ → A → List A
+  insertRun xs zero k a = replicate k a ++ xs
+  insertRun [] (suc i) k a = replicate k a
+  insertRun (x ∷ xs) (suc i) k a = x ∷ insertRun xs i k a
 
   -- the list without k entries, the first of them at a place
   unfoldable pub removeRun : List A → ℕ → ℕ → List A

@@ -9,7 +9,7 @@ use lib.Dec.{ltb}
 use lib.ListN.{length, getD, take, drop, replicate}
 use Rattle.tables.specs.Cells.{padded, cells, rowsOf, Each}
 use Rattle.tables.specs.Limits.{elementLimit, itemLimit}
-use Rattle.tables.specs.Lists.{removeRun}
+use Rattle.tables.specs.Lists.{insertRun, removeRun}
 use Rattle.tables.specs.Records.{Item, child, text, Model, contentItems, listOf}
 use Rattle.tables.specs.SetCells.{setWidth, setCells, cellsSet}
 use Rattle.tables.specs.declared.model.Parent.{Parent}
@@ -143,11 +143,9 @@ pub record HoldsModel (xs : List ℕ) (m : Model) : Type 0 where
 
 -- ---- what the stores do to a part of the table
 
--- the value at a place, what stands from there on moved up by one; the last falls out
-unfoldable pub shiftIn : List ℕ → ℕ → ℕ → List ℕ
-shiftIn [] i v = []
-shiftIn (x ∷ xs) zero v = v ∷ shiftIn xs zero x
-shiftIn (x ∷ xs) (suc i) v = x ∷ shiftIn xs i v
+-- the value k times at a place, what stands from there on moved up by k; the last k fall out
+unfoldable pub shiftIn : List ℕ → ℕ → ℕ → ℕ → List ℕ
+shiftIn xs i k v = insertRun (take (length xs - k) xs) i k v
 
 -- without the k entries at a place, what stands behind them moved down by k, and zeros at the end
 unfoldable pub shiftOut : List ℕ → ℕ → ℕ → List ℕ

@@ -5,7 +5,7 @@ use mathlib.Core.Option.{Option, none}
 use mathlib.Core.Bool.{Bool, false}
 use Prim.Native.Nat.{ℕ}
 use lib.ListN.{length, getD, set}
-use Rattle.tables.specs.Lists.{sum, insertAt, removeAt, removeRun}
+use Rattle.tables.specs.Lists.{sum, insertAt, removeAt, insertRun, removeRun}
 
 abbrev pub Element : Type 0
 Element = ℕ
@@ -220,6 +220,14 @@ putList m e l = record { parents = m .parents; sets = m .sets; lists = set (m .l
 -- the item at this place of the element's list
 unfoldable pub insertItem : Model → Element → ℕ → Item → Model
 insertItem m e i a = putList m e (insertAt (listOf m e) i a)
+
+-- the item k times at this place of the element's list
+unfoldable pub insertItems : Model → Element → ℕ → ℕ → Item → Model
+insertItems m e i k a = putList m e (insertRun (listOf m e) i k a)
+
+-- the item at this place of the element's list, in place of the one that stands there
+unfoldable pub putItem : Model → Element → ℕ → Item → Model
+putItem m e i a = putList m e (set (listOf m e) i a)
 
 -- the element's list without the item at this place
 unfoldable pub removeItem : Model → Element → ℕ → Model

@@ -12,7 +12,7 @@ ghost use mathlib.Core.Path.{_≡_};
 ghost use Prim.Native.Nat.{ℕ, _+_, _-_, _≤_, _<_};
 ghost use lib.ListN.{length, getD, replicate};
 ghost use Rattle.tables.specs.Limits.{elementLimit, itemLimit};
-ghost use Rattle.tables.specs.Records.{Model, child, parentOf, setOf, listOf, contentItems, putParent, putSet, insertItem, removeItems, addToModel};
+ghost use Rattle.tables.specs.Records.{Model, child, parentOf, setOf, listOf, contentItems, putParent, putSet, insertItem, insertItems, putItem, removeItems, addToModel};
 ghost use Rattle.tables.specs.SetCells.{setIs};
 ghost use Rattle.tables.specs.ModelTable.{parentIs, itemIs, parentCell, cellParent, itemCell, cellItem, countOf, modelOf, ParentBelow, ItemBelow, GoodModel, HoldsModel, StartOf, shiftIn, shiftOut, onFrom};
 
@@ -89,25 +89,37 @@ fn item_cell(a: Item) -> u64
 
 // Changes of a part in place.
 
-// The value in front, all moved up by one; the last falls out. The loop over the whole slice compiles to one move.
-fn put_first(s: &mut [u64], v: u64)
-    requires { ⌜ 0 < length (now s) ⌝ }
-    ensures { λ _. ⌜ now (s .exit) ≡ shiftIn (now (s .entry)) 0 v ⌝ }
+// The first k this value, the others moved up by k; the last k fall out.
+fn move_up(s: &mut [u64], k: usize, v: u64)
+    requires { ⌜ k ≤ length (now s) ⌝ }
+    ensures { λ _. ⌜ now (s .exit) ≡ shiftIn (now (s .entry)) 0 k v ⌝ }
 {
-    let mut j = s.len() - 1;
+    let mut j = s.len() - k;
     while 0 < j {
-        s[j] = s[j - 1];
         j -= 1;
+        s[j + k] = s[j];
     }
-    s[0] = v;
+    fill(&mut s[..k], v);
 }
 
-// The value at a place, what stands from there on moved up by one; the last falls out.
-fn shift_in(s: &mut [u64], i: usize, v: u64)
-    requires { ⌜ i < length (now s) ⌝ }
-    ensures { λ _. ⌜ now (s .exit) ≡ shiftIn (now (s .entry)) i v ⌝ }
+// The same; by one the loop compiles to one move.
+fn put_front(s: &mut [u64], k: usize, v: u64)
+    requires { ⌜ k ≤ length (now s) ⌝ }
+    ensures { λ _. ⌜ now (s .exit) ≡ shiftIn (now (s .entry)) 0 k v ⌝ }
 {
-    put_first(&mut s[i..], v);
+    if k == 1 {
+        move_up(s, 1, v);
+        return;
+    }
+    move_up(s, k, v);
+}
+
+// The value k times at a place, what stands from there on moved up by k; the last k fall out.
+fn shift_in(s: &mut [u64], i: usize, k: usize, v: u64)
+    requires { ⌜ i + k ≤ length (now s) ⌝ }
+    ensures { λ _. ⌜ now (s .exit) ≡ shiftIn (now (s .entry)) i k v ⌝ }
+{
+    put_front(&mut s[i..], k, v);
 }
 
 // Without the first k, the others moved down by k, and zeros at the end.
@@ -144,14 +156,15 @@ fn shift_out(s: &mut [u64], i: usize, k: usize)
     drop_front(&mut s[i..], k);
 }
 
-// Each entry from a place on, and one more.
-fn raise_from(s: &mut [u64], i: usize)
-    requires { ⌜ ((k : ℕ) → getD (now s) k 0 ≤ itemLimit) ⌝ }
-    ensures { λ _. ⌜ now (s .exit) ≡ onFrom (λ (x : ℕ). x + 1) (now (s .entry)) i ⌝ }
+// Each entry from a place on, and k more.
+fn raise_from(s: &mut [u64], i: usize, k: u64)
+    requires { ⌜ ((j : ℕ) → getD (now s) j 0 ≤ itemLimit) ⌝ }
+    requires { ⌜ k ≤ itemLimit ⌝ }
+    ensures { λ _. ⌜ now (s .exit) ≡ onFrom (λ (x : ℕ). x + k) (now (s .entry)) i ⌝ }
 {
     let mut j = i;
     while j < s.len() {
-        s[j] = s[j] + 1;
+        s[j] = s[j] + k;
         j += 1;
     }
 }
@@ -168,15 +181,22 @@ fn lower_from(s: &mut [u64], i: usize, k: u64)
     }
 }
 
+// Every cell of a table this value.
+fn fill(table: &mut [u64], v: u64)
+    ensures { λ _. ⌜ now (table .exit) ≡ replicate (length (now (table .entry))) v ⌝ }
+{
+    let mut j = 0;
+    while j < table.len() {
+        table[j] = v;
+        j += 1;
+    }
+}
+
 // Every cell of a table zero.
 pub fn clear(table: &mut [u64])
     ensures { λ _. ⌜ now (table .exit) ≡ replicate (length (now (table .entry))) 0 ⌝ }
 {
-    let mut j = 0;
-    while j < table.len() {
-        table[j] = 0;
-        j += 1;
-    }
+    fill(table, 0);
 }
 
 // Reads.
@@ -264,6 +284,26 @@ pub fn set_set(model: &mut [u64], e: Element, s: FileSet)
     store_set(model, SETS_AT + e.0 * SET_WIDTH, s);
 }
 
+// The item k times at this place of the element's list.
+pub fn insert_items(model: &mut [u64], e: Element, i: usize, k: usize, a: Item)
+    requires { ⌜ GoodModel (now model) ⌝ }
+    requires { ⌜ e .0 < countOf (modelOf (now model)) ⌝ }
+    requires { ⌜ i ≤ length (listOf (modelOf (now model)) (e .0)) ⌝ }
+    requires { ⌜ contentItems (modelOf (now model)) + k ≤ itemLimit ⌝ }
+    requires { ⌜ ItemBelow (countOf (modelOf (now model))) (itemIs a) ⌝ }
+    ensures { λ _. ⌜ HoldsModel (now (model .exit)) (insertItems (modelOf (now (model .entry))) (e .0) i k (itemIs a)) ⌝ }
+{
+    let n = count(model);
+    let total = item_total(model);
+    let at = start_of(model, e) + i;
+    let v = item_cell(a);
+    let end = ITEMS_AT + total + k;
+    shift_in(&mut model[ITEMS_AT..end], at, k, v);
+    let last = STARTS_AT + n + 1;
+    let later = e.0 + 1;
+    raise_from(&mut model[STARTS_AT..last], later, k as u64);
+}
+
 // The item at this place of the element's list.
 pub fn insert_item(model: &mut [u64], e: Element, i: usize, a: Item)
     requires { ⌜ GoodModel (now model) ⌝ }
@@ -273,15 +313,20 @@ pub fn insert_item(model: &mut [u64], e: Element, i: usize, a: Item)
     requires { ⌜ ItemBelow (countOf (modelOf (now model))) (itemIs a) ⌝ }
     ensures { λ _. ⌜ HoldsModel (now (model .exit)) (insertItem (modelOf (now (model .entry))) (e .0) i (itemIs a)) ⌝ }
 {
-    let n = count(model);
-    let total = item_total(model);
+    insert_items(model, e, i, 1, a);
+}
+
+// The item at this place of the element's list, in place of the one that stands there.
+pub fn put_item(model: &mut [u64], e: Element, i: usize, a: Item)
+    requires { ⌜ GoodModel (now model) ⌝ }
+    requires { ⌜ e .0 < countOf (modelOf (now model)) ⌝ }
+    requires { ⌜ i < length (listOf (modelOf (now model)) (e .0)) ⌝ }
+    requires { ⌜ ItemBelow (countOf (modelOf (now model))) (itemIs a) ⌝ }
+    ensures { λ _. ⌜ HoldsModel (now (model .exit)) (putItem (modelOf (now (model .entry))) (e .0) i (itemIs a)) ⌝ }
+{
     let at = start_of(model, e) + i;
-    let v = item_cell(a);
-    let end = ITEMS_AT + total + 1;
-    shift_in(&mut model[ITEMS_AT..end], at, v);
-    let last = STARTS_AT + n + 1;
-    let later = e.0 + 1;
-    raise_from(&mut model[STARTS_AT..last], later);
+    let j = ITEMS_AT + at;
+    model[j] = item_cell(a);
 }
 
 // The element's list without k items, the first of them at this place.

@@ -1,88 +1,29 @@
--- Import of one element on the lent tables. Assumes nothing.
-use mathlib.Core.Bool.{true, false}
-use mathlib.Core.List.{List, [], _∷_}
+-- The range decides on the import of one element; the B-only list, some rows at a time. Assumes nothing.
+use mathlib.Core.List.{List, [], _∷_, _++_}
 use mathlib.Core.Logic.{inl, inr}
-use mathlib.Core.Option.{Option, some}
-use mathlib.Core.Path.{_≡_, refl, sym, ap, _∙_}
-use Prim.Native.Nat.{ℕ, suc, _+_, _-_, _≤_, _<_}
-use native.Mathlib.Numerals.{add-one}
+use mathlib.Core.Path.{_≡_, refl, sym, ap, subst, _∙_}
+use Prim.Native.Nat.{ℕ, suc, _+_, _-_, _≤_}
 use native.Mathlib.Omega.{arith}
 use types.Run.{OneOf}
 use denote.Enum.Declared.{tagOf}
-use borrow.Author.Tests.{lt-ltb, le-ltb}
 use lib.ListN.{length}
-use Rattle.tables.specs.FileSets.{withFile}
-use Rattle.tables.specs.Limits.{logLimit, itemLimit}
 use Rattle.tables.specs.ElementsTable.{elementsOf}
-use Rattle.tables.specs.LogTable.{logOf, HoldsLog}
-use Rattle.tables.specs.ModelTable.{countOf, modelOf, ParentBelow, GoodModel, HoldsModel}
-use Rattle.tables.specs.Records.{Element, FileNumber, FileSet, Version, child, Model, import, State, Fixed, nameOf, contentItems, parentOf, setOf, listOf, putParent, putSet, insertItem}
-use Rattle.tables.proofs.Laws.Model.{count-putParent, count-insert}
+use Rattle.tables.specs.Records.{Element, FileNumber, Version, State, Fixed, nameOf}
+use Rattle.table_test.specs.Fits.{ModelOver, LogFits, KeepsState}
 use Rattle.state_test.specs.StateTest.{fixedIn, stateIn}
-use Rattle.merge_rules.specs.Import.{adopt, importAt, clamp, importSingleItem, importNewItems}
-use Rattle.merge_rules.specs.Log.{change}
+use Rattle.merge_rules.specs.Import.{importAt, clamp, importSingleItem, importNewItems}
 use Rattle.merge_rules.specs.Pairing.{NewItem}
 use Rattle.merge_rules.specs.Range.{places, noRow, conflicting, calcElementInsertRange}
-use Rattle.merge_rules.specs.Refusals.{Outcome, done, conflict, refused, notInVersion, logFull, contentFull, _>>=_}
+use Rattle.merge_rules.specs.Refusals.{Outcome, done, conflict, refused, notInVersion, _>>=_}
+use Rattle.pairing.specs.Plans.{spread, importIn, rowElement, rowValue}
+use Rattle.pairing.proofs.Laws.Spreads.{spread-done, spread-split, length-singles}
 use Rattle.changes.specs.Answers.{outcomeIs}
+use Rattle.changes.specs.Range.{rangeIs, PlacesIn}
 use Rattle.changes.specs.declared.range.Range as range
 use Rattle.changes.specs.declared.range.Range.the-variants.{Places, NoRow, Conflicting}
 use Rattle.changes.specs.declared.refusals.Outcome as step
 use Rattle.changes.specs.declared.refusals.Outcome.the-variants.{Done, Conflict, Refused}
-use Rattle.pairing.specs.Plans.{spread, importIn, rowElement, rowValue}
-use Rattle.changes.specs.Range.{rangeIs, PlacesIn}
-use Rattle.table_test.specs.Fits.{ModelOver, LogFits, KeepsModel, KeepsState}
 use Rattle.changes.proofs.refusals.Outcome.{the-type}
-use Rattle.pairing.proofs.Laws.Spreads.{spread-here, spread-done}
-use Rattle.table_test.proofs.Laws.Fits.{fits-set, fits-parent, fits-insert, fits-push}
-
-module _ (m : List ℕ) (f : FileNumber) (p e : Element) (at : ℕ) where
-  -- what the stores ask
-  pub parent-asks : (m₁ : List ℕ) → HoldsModel m₁ (insertItem (modelOf m) p at (child e)) → p < countOf (modelOf m) → e < countOf (modelOf m)
-      → GoodModel m₁ × (e < countOf (modelOf m₁)) × (p < countOf (modelOf m₁))
-  parent-asks m₁ h lowP lowE =
-      let z : countOf (modelOf m₁) ≡ countOf (modelOf m) = ap countOf (h .is) ∙ count-insert (modelOf m) p at (child e) in
-      (h .good, omega arith, omega arith)
-
-  pub set-asks : (m₁ m₂ : List ℕ) → HoldsModel m₁ (insertItem (modelOf m) p at (child e)) → HoldsModel m₂ (putParent (modelOf m₁) e (some p))
-      → e < countOf (modelOf m) → GoodModel m₂ × (e < countOf (modelOf m₂))
-  set-asks m₁ m₂ h₁ h₂ low =
-      (h₂ .good, rw (h₂ .is, count-putParent (modelOf m₁) e (some p), h₁ .is, count-insert (modelOf m) p at (child e)) low)
-
-  module _ (m₁ m₂ m₃ : List ℕ) (s : FileSet) (h₁ : HoldsModel m₁ (insertItem (modelOf m) p at (child e)))
-      (h₂ : HoldsModel m₂ (putParent (modelOf m₁) e (some p))) (h₃ : HoldsModel m₃ (putSet (modelOf m₂) e s)) where
-    pub adopted : s ≡ withFile (setOf (modelOf m) e) f → HoldsModel m₃ (adopt f p e at (modelOf m))
-    unfolding adopt
-    adopted is = record { good = h₃ .good; is = rw (h₂ .is, h₁ .is, is) at (h₃ .is) }
-
-    pub keeps-adopted : p < countOf (modelOf m) → at ≤ length (listOf (modelOf m) p) → KeepsModel m m₃
-    keeps-adopted low place n texts k = fits-set (fits-parent (fits-insert k p at (child e) low place tt h₁) e (some p) h₂) e s h₃
-
--- ---- 9, 10, or the import
-
-module _ (m l : List ℕ) (f : FileNumber) (p e : Element) (at : ℕ) where
-  pub import-log-full : logLimit ≤ length (logOf l) → refused logFull ≡ importAt f p e at (stateIn m l)
-  unfolding importAt change _>>=_
-  import-log-full h = sym (rw (importAt, change, le-ltb _ _ h))
-
-  pub import-content-full : length (logOf l) < logLimit → itemLimit ≤ contentItems (modelOf m) → refused contentFull ≡ importAt f p e at (stateIn m l)
-  unfolding importAt change _>>=_
-  import-content-full h k = sym (rw (importAt, change, lt-ltb _ _ h, le-ltb _ _ k))
-
-  module _ (m′ l′ : List ℕ) (oldParent : Option Element) (oldSet : FileSet) (hl : HoldsLog l′ (import e p oldParent oldSet ∷ logOf l)) where
-    pub import-done : length (logOf l) < logLimit → contentItems (modelOf m) < itemLimit → oldParent ≡ parentOf (modelOf m) e
-        → oldSet ≡ setOf (modelOf m) e → HoldsModel m′ (adopt f p e at (modelOf m)) → done (stateIn m′ l′) ≡ importAt f p e at (stateIn m l)
-    unfolding importAt change _>>=_
-    import-done h k op os hm = rw (hm .is, hl .is, op, os) (sym (rw (importAt, change, lt-ltb _ _ h, lt-ltb _ _ k)))
-
-    pub keeps-import : e < countOf (modelOf m) → p < countOf (modelOf m) → ParentBelow (countOf (modelOf m)) oldParent → KeepsModel m m′
-        → KeepsState m l m′ l′
-    keeps-import lowE lowP below k n texts s =
-        let z = s .modelFits .same in
-        record {
-          modelFits = k n texts (s .modelFits);
-          logFits = fits-push (s .logFits) (import e p oldParent oldSet) (rw z at lowE, rw z at lowP, rw z at below) hl;
-        }
 
 -- ---- the range decides
 
@@ -128,6 +69,54 @@ then-stop s k Done e (inr n) = absurd (omega arith)
 then-stop s k (Conflict c) e n = rw (← e)
 then-stop s k (Refused r) e n = rw (← e)
 
+pub not-done : (o : step.Outcome) → OneOf (1 ∷ 2 ∷ []) (tagOf the-type o) → o ≡ Done → ⊥
+not-done o t d = none-of (subst (λ (x : step.Outcome). OneOf (1 ∷ 2 ∷ []) (tagOf the-type x)) d t)
+  where
+    none-of : OneOf (1 ∷ 2 ∷ []) (tagOf the-type Done) → ⊥
+    none-of (inl n) = omega arith
+    none-of (inr n) = omega arith
+
+-- ---- one list behind another
+
+-- two steps, one behind the other
+bind-both : (o : Outcome) (g k h : State → Outcome) → ((t : State) → k t ≡ (g t >>= h)) → (o >>= k) ≡ ((o >>= g) >>= h)
+unfolding _>>=_
+bind-both (done t) g k h e = e t
+bind-both (conflict c t) g k h e = refl
+bind-both (refused r) g k h e = refl
+
+bind-done : (o : Outcome) (k : State → Outcome) → ((t : State) → k t ≡ done t) → (o >>= k) ≡ o
+unfolding _>>=_
+bind-done (done t) k e = e t
+bind-done (conflict c t) k e = refl
+bind-done (refused r) k e = refl
+
+module _ (x : Fixed) (f : FileNumber) (v : Version) (p : Element) where
+  imports-append : (i : ℕ) (as′ bs : List NewItem) (s : State)
+      → importNewItems x f v p i (as′ ++ bs) s ≡ (importNewItems x f v p i as′ s >>= importNewItems x f v p (i + length as′) bs)
+  unfolding importNewItems _>>=_
+  imports-append i [] bs s = let e : i + 0 ≡ i = omega arith in rw e
+  imports-append i (a ∷ as′) bs s =
+      let e : i + suc (length as′) ≡ suc i + length as′ = omega arith in
+      rw e
+      (bind-both (importSingleItem x f v p (a .element) (a .position + i) s) (importNewItems x f v p (suc i) as′) (importNewItems x f v p (suc i) (as′ ++ bs))
+      (importNewItems x f v p (suc i + length as′) bs) (imports-append (suc i) as′ bs))
+
+  -- the first k rows, and then the others
+  pub imports-rows : (w : List ℕ) (row i k n : ℕ) (s : State)
+      → importNewItems x f v p i (spread (importIn w) row (k + n)) s
+      ≡ (importNewItems x f v p i (spread (importIn w) row k) s >>= importNewItems x f v p (i + k) (spread (importIn w) (row + k) n))
+  imports-rows w row i k n s =
+      rw (spread-split (importIn w) row k n)
+      (imports-append i (spread (importIn w) row k) (spread (importIn w) (row + k) n) s
+      ∙ ap (λ (z : ℕ). importNewItems x f v p i (spread (importIn w) row k) s >>= importNewItems x f v p (i + z) (spread (importIn w) (row + k) n)) (length-singles _ row k))
+
+  -- one row by itself
+  pub imports-one : (w : List ℕ) (row i : ℕ) (s : State)
+      → importNewItems x f v p i (spread (importIn w) row 1) s ≡ importSingleItem x f v p (rowElement w row) (rowValue w row + i) s
+  unfolding importNewItems spread
+  imports-one w row i s = bind-done (importSingleItem x f v p (rowElement w row) (rowValue w row + i) s) (importNewItems x f v p (suc i) []) (λ t. refl)
+
 module _ (schema elements w : List ℕ) (na ni f v p : ℕ) (m₀ l₀ : List ℕ) where
   -- the rows behind the first i do to the tables what is left of the whole
   pub record ImportsLeft (m l : List ℕ) (i : ℕ) : Type 0 where
@@ -149,28 +138,29 @@ module _ (schema elements w : List ℕ) (na ni f v p : ℕ) (m₀ l₀ : List �
     unfolding importNewItems
     imports-end h deck = sym (rw (spread-done (importIn w) (na + i) (na + ni) (omega arith))) ∙ k .left deck
 
-    -- row i, with the answer of its import and the tables that it left
-    module _ (h : i < ni) (e wanted : ℕ) (row : e ≡ rowElement w (na + i)) (place : wanted ≡ rowValue w (na + i) + i) (m′ l′ : List ℕ) (o : step.Outcome)
-        (is : (deck : List ℕ) → outcomeIs o (stateIn m′ l′) ≡ importSingleItem (fixedIn deck schema elements) f v p e wanted (stateIn m l)) where
+    -- n rows from i on, with the answer of their imports and the tables that they left
+    module _ (n : ℕ) (h : i + n ≤ ni) (m′ l′ : List ℕ) (o : step.Outcome)
+        (is : (deck : List ℕ) → outcomeIs o (stateIn m′ l′) ≡ importNewItems (fixedIn deck schema elements) f v p i (spread (importIn w) (na + i) n) (stateIn m l)) where
       here : (deck : List ℕ)
           → importNewItems (fixedIn deck schema elements) f v p i (spread (importIn w) (na + i) (na + ni - (na + i))) (stateIn m l)
-          ≡ (importSingleItem (fixedIn deck schema elements) f v p e wanted (stateIn m l)
-          >>= importNewItems (fixedIn deck schema elements) f v p (suc i) (spread (importIn w) (na + i + 1) (na + ni - (na + i + 1))))
-      unfolding importNewItems
-      here deck = rw (spread-here (importIn w) (na + i) (na + ni) (omega arith), ← row, ← place)
+          ≡ (importNewItems (fixedIn deck schema elements) f v p i (spread (importIn w) (na + i) n) (stateIn m l)
+          >>= importNewItems (fixedIn deck schema elements) f v p (i + n) (spread (importIn w) (na + i + n) (na + ni - (na + i + n))))
+      here deck =
+          let z : na + ni - (na + i) ≡ n + (na + ni - (na + i + n)) = omega arith in
+          rw z (imports-rows (fixedIn deck schema elements) f v p w (na + i) i n (na + ni - (na + i + n)) (stateIn m l))
 
       pub imports-stop : OneOf (1 ∷ 2 ∷ []) (tagOf the-type o) → (deck : List ℕ)
           → outcomeIs o (stateIn m′ l′) ≡ importNewItems (fixedIn deck schema elements) f v p 0 (spread (importIn w) na ni) (stateIn m₀ l₀)
       imports-stop t deck = then-stop (stateIn m′ l′) _ o (is deck) t ∙ sym (here deck) ∙ k .left deck
 
-      pub imports-more : o ≡ Done → KeepsState m l m′ l′ → ImportsLeft m′ l′ (i + 1)
+      pub imports-more : o ≡ Done → KeepsState m l m′ l′ → ImportsLeft m′ l′ (i + n)
       imports-more d kept =
           let s = kept _ _ (record { modelFits = k .modelFits; logFits = k .logFits }) in
-          let a : na + (i + 1) ≡ na + i + 1 = omega arith in
+          let a : na + (i + n) ≡ na + i + n = omega arith in
           record {
-            within = omega arith;
+            within = h;
             modelFits = s .modelFits;
             logFits = s .logFits;
             keeps = λ n texts q. kept n texts (k .keeps n texts q);
-            left = λ deck. rw (a, add-one i) (sym (then-done (stateIn m′ l′) _ o (is deck) d) ∙ sym (here deck) ∙ k .left deck);
+            left = λ deck. rw a (sym (then-done (stateIn m′ l′) _ o (is deck) d) ∙ sym (here deck) ∙ k .left deck);
           }

@@ -10,7 +10,7 @@ use lib.ListN.{length, getD, drop, drop-of-length-le}
 use Rattle.tables.specs.Cells.{Each}
 use Rattle.tables.specs.Limits.{itemLimit, versionLimit}
 use Rattle.tables.specs.Paths.{pathOrder, orderOf}
-use Rattle.tables.specs.Records.{SchemaPath, Mode, Mult, Item, child, text, Fixed, SubElement, Model, typeRow, nameOf, typeOf, listOf}
+use Rattle.tables.specs.Records.{SchemaPath, Mode, sequence, choice, bag, mixed, characters, Mult, Item, child, text, Fixed, SubElement, Model, typeRow, nameOf, typeOf, listOf}
 use Rattle.tables.specs.ElementsTable.{elementsOf, GoodElements}
 use Rattle.tables.specs.ModelTable.{modelOf, countOf, ItemBelow, GoodModel}
 use Rattle.tables.specs.SchemaTable.{schemaOf, modeNumber, modeFrom, multNumber, multFrom, noSubElement}
@@ -32,7 +32,7 @@ use Rattle.changes.specs.declared.range.Range.the-variants.{Places, NoRo
 use Rattle.changes.specs.declared.range.Against.{Against}
 use Rattle.changes.specs.declared.range.Against.the-variants.{NoRow as NoRowOf, Row}
 use Rattle.changes.specs.declared.range.Bounds.{Bounds}
-use Rattle.changes.specs.Range.{orderingIs, moveIs, moveOf, boundsAfter, Compares, nameOr, Moves, rangeIs, PlacesIn, Ranges}
+use Rattle.changes.specs.Range.{orderingIs, moveIs, moveOf, boundsAfter, Compares, nameOr, Moves, rangeIs, PlacesIn, Ranges, AnyPlaceIn}
 use Rattle.table_test.specs.Fits.{ModelOver}
 
 -- ---- a move, by numbers
@@ -187,12 +187,36 @@ module _ (elements model : List ℕ) (over : ModelOver elements model) (p i : �
 
 -- ---- the range, by the parent's mode
 
+-- 2 and 3 are bag and mixed
+pub any-place : (mode : Mode) → 2 ≤ modeNumber mode → modeNumber mode < 4 → AnyPlaceIn mode
+unfolding modeNumber
+any-place sequence g h = absurd (omega arith)
+any-place choice g h = absurd (omega arith)
+any-place bag g h = tt
+any-place mixed g h = tt
+any-place characters g h = absurd (omega arith)
+
 module _ (x : Fixed) (m : Model) (p n v : ℕ) (low : v < versionLimit) {t : ℕ} (ht : t ≡ typeOf x p) where
   pub calc-none : findSubElement (x .schema) t n (1 * 2 ^ v % 2 ^ 64) ≡ none → noRow ≡ calcElementInsertRange x m p n v
   unfolding calcElementInsertRange
   calc-none h =
       let k : findSubElement (x .schema) (typeOf x p) n (versionMask v) ≡ none = rw (← ht, ← one-shifted v (omega arith)) h in
       rw (calcElementInsertRange, k)
+
+  -- any place, in a bag or mixed
+  pub calc-any : {new : SubElement} → findSubElement (x .schema) t n (1 * 2 ^ v % 2 ^ 64) ≡ some new → AnyPlaceIn (typeRow (x .schema) t .mode)
+      → places 0 (length (listOf m p)) ≡ calcElementInsertRange x m p n v
+  unfolding calcElementInsertRange rangeIn
+  calc-any {new} found any =
+      let k : findSubElement (x .schema) (typeOf x p) n (versionMask v) ≡ some new = rw (← ht, ← one-shifted v (omega arith)) found in
+      in-mode (typeRow (x .schema) t .mode) any ∙ rw (calcElementInsertRange, k, ht)
+    where
+      in-mode : (mode : Mode) → AnyPlaceIn mode → places 0 (length (listOf m p)) ≡ rangeIn x m p new mode
+      in-mode sequence h = absurd h
+      in-mode choice h = absurd h
+      in-mode bag h = refl
+      in-mode mixed h = refl
+      in-mode characters h = absurd h
 
   module _ {new : SubElement} (found : findSubElement (x .schema) t n (1 * 2 ^ v % 2 ^ 64) ≡ some new) {mode : ℕ}
       (hm : mode ≡ modeNumber (typeRow (x .schema) t .mode)) where
@@ -212,15 +236,7 @@ module _ (x : Fixed) (m : Model) (p n v : ℕ) (low : v < versionLimit) {t : ℕ
         two (suc (suc k)) h = absurd (omega arith)
 
     pub calc-all : 2 ≤ mode → mode < 4 → {k : ℕ} → k ≡ length (listOf m p) → places 0 k ≡ calcElementInsertRange x m p n v
-    unfolding rangeIn
-    calc-all g h e = rw e (two mode g h) ∙ by-mode
-      where
-        two : (k : ℕ) → 2 ≤ k → k < 4 → places 0 (length (listOf m p)) ≡ rangeIn x m p new (modeFrom k)
-        two zero g h = absurd (omega arith)
-        two (suc zero) g h = absurd (omega arith)
-        two (suc (suc zero)) g h = refl
-        two (suc (suc (suc zero))) g h = refl
-        two (suc (suc (suc (suc k)))) g h = absurd (omega arith)
+    calc-all g h e = rw e (calc-any found (any-place (typeRow (x .schema) t .mode) (rw (← hm) g) (rw (← hm) h)))
 
     pub calc-characters : 4 ≤ mode → noRow ≡ calcElementInsertRange x m p n v
     unfolding rangeIn

@@ -1,17 +1,17 @@
 -- What a rollback puts off: items that stand one behind the other leave their list together. Assumes nothing.
 use mathlib.Core.Bool.{Bool, true}
-use mathlib.Core.List.{List, [], _∷_}
+use mathlib.Core.List.{List}
 use mathlib.Core.Option.{none, some}
-use mathlib.Core.Path.{_≡_, refl, sym, ap, _∙_}
+use mathlib.Core.Path.{_≡_, sym, ap, _∙_}
 use Prim.Native.Nat.{ℕ, zero, suc, _+_, _-_, _≤_, _<_, zero-le}
 use native.Mathlib.Numerals.{add-one}
 use native.Mathlib.Omega.{arith}
 use lib.ListN.{length, getD}
 use Rattle.tables.specs.Limits.{itemLimit}
 use Rattle.tables.specs.Lists.{removeAt, removeRun}
-use Rattle.tables.specs.ModelTable.{countOf, modelOf, GoodModel, HoldsModel}
+use Rattle.tables.specs.ModelTable.{modelOf, GoodModel, HoldsModel}
 use Rattle.tables.specs.Records.{Element, Item, child, Model, listOf, putList, removeItem, removeItems}
-use Rattle.tables.proofs.Laws.Lists.{length-removeRun, getD-removeRun, removeRun-more}
+use Rattle.tables.proofs.Laws.Lists.{length-removeRun, getD-removeRun, removeRun-none, removeRun-more}
 use Rattle.tables.proofs.Laws.Model.{putList-same, putList-putList, list-putList}
 use Rattle.tables.proofs.Laws.ModelTable.{start-room, listed-below}
 use Rattle.table_test.specs.Fits.{KeepsModel}
@@ -28,20 +28,16 @@ use Rattle.changes.proofs.Laws.Places.{place-within}
 
 -- ---- none, one, one more
 
-module _ {A : Type 0} where
-  removeRun-none : (l : List A) (i : ℕ) → removeRun l i 0 ≡ l
-  unfolding removeRun
-  removeRun-none l zero = refl
-  removeRun-none [] (suc i) = refl
-  removeRun-none (x ∷ l) (suc i) = ap (λ (r : List A). x ∷ r) (removeRun-none l i)
-
-  removeRun-one : (l : List A) (i : ℕ) → removeRun l i 1 ≡ removeAt l i
-  removeRun-one l i = sym (removeRun-more l i 0) ∙ ap (λ (r : List A). removeAt r i) (removeRun-none l (suc i))
+removeRun-one : {A : Type 0} (l : List A) (i : ℕ) → removeRun l i 1 ≡ removeAt l i
+removeRun-one l i = sym (removeRun-more l i 0) ∙ ap (λ (r : List _). removeAt r i) (removeRun-none l (suc i))
 
 -- nothing leaves
-pub none-leave : (m : Model) (r : Run) → r .k ≡ 0 → withoutRun r m ≡ m
+pub remove-none : (m : Model) (p : Element) (i : ℕ) → removeItems m p i 0 ≡ m
 unfolding removeItems
-none-leave m r z = rw z (ap (putList m (r .p .0)) (removeRun-none (listOf m (r .p .0)) (r .i)) ∙ putList-same m (r .p .0))
+remove-none m p i = ap (putList m p) (removeRun-none (listOf m p) i) ∙ putList-same m p
+
+pub none-leave : (m : Model) (r : Run) → r .k ≡ 0 → withoutRun r m ≡ m
+none-leave m r z = rw z (remove-none m (r .p .0) (r .i))
 
 -- what stands at its first place leaves
 taken : (m : Model) (e p : Element) (i : ℕ) → firstPlaceOf e (listOf m p) ≡ some i → removeItems m p i 1 ≡ takeOut e p m

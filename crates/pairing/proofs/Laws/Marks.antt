@@ -1,5 +1,5 @@
--- Laws of the marks of keys: equal keys have equal marks, and where the marks of B's children stand. Assumes nothing.
-use mathlib.Core.Bool.{true, false, false≢true, and-false}
+-- Laws of the marks of keys: equal keys have equal marks, which marks are passed over, and where the marks of B's children stand. Assumes nothing.
+use mathlib.Core.Bool.{Bool, true, false, _||_, true≢false, false≢true, and-false}
 use mathlib.Core.List.{List}
 use mathlib.Core.Logic.{⊎-elim}
 use mathlib.Core.Option.{Option, none, some}
@@ -7,9 +7,11 @@ use mathlib.Core.Path.{_≡_, refl, sym, ap, _∙_}
 use Prim.Native.Nat.{ℕ, _+_, _-_, _*_, _%_, _<_, _≤_}
 use native.Mathlib.Numerals.{add-one}
 use native.Mathlib.Omega.{arith}
-use lib.Dec.{eqb}
+use borrow.Author.Tests.{eqb-false, ltb-true, ltb-false}
+use lib.Dec.{eqb, ltb}
 use lib.ListN.{length, getD, set, take, drop, length-set, drop-of-length-le}
 use lib.Seq.{drop-cons, drop-drop, take-take, take-set-le, getD-set-same, getD-set-other}
+use Rattle.tables.specs.Lists.{firstOf}
 use Rattle.tables.specs.Records.{Element, Place, Model, Fixed, nameOf}
 use Rattle.tables.specs.Texts.{bytesAt, placeOf}
 use Rattle.tables.specs.declared.text.Place as code
@@ -20,8 +22,9 @@ use Rattle.tables.proofs.Laws.Lists.{same-lists}
 use Rattle.pairing.specs.declared.keys.Key.{Key}
 use Rattle.pairing.specs.declared.keys.Key.the-variants.{At, Missing as NoKey}
 use Rattle.pairing.specs.declared.plan.Sides.{Sides}
-use Rattle.pairing.specs.Keys.{keyIs, spanOf, markOf, keyMark, KeyMarks, hasKey}
+use Rattle.pairing.specs.Keys.{keyIs, spanOf, markOf, keyMark, KeyMarks, NoMark, hasKey}
 use Rattle.pairing.specs.Walks.{secondChildren, marksFrom, WritesMarks, Marked}
+use Rattle.pairing.proofs.Laws.Siblings.{siblings-past}
 use Rattle.pairing.proofs.Laws.Rows.{length-part, getD-part, front-at, part-kept, second-behind, second-front}
 
 -- ---- keys of different marks
@@ -36,10 +39,59 @@ same-keys (some a) (some b) h = ap some (same-lists a b h)
 keys-differ : (a b : Option (List ℕ)) → (keyMark a ≡ keyMark b → ⊥) → sameKey a b ≡ false
 keys-differ a b n = bool-split (sameKey a b) (λ h. absurd (n (ap keyMark (same-keys a b h)))) (λ h. h)
 
-pub other-mark : (x : Fixed) (key : Element → Option (List ℕ)) (n : ℕ) (k : Option (List ℕ)) (bs marks : List ℕ) → KeyMarks key bs marks → (i : ℕ) → i < length bs
+other-mark : (x : Fixed) (key : Element → Option (List ℕ)) (n : ℕ) (k : Option (List ℕ)) (bs marks : List ℕ) → KeyMarks key bs marks → (i : ℕ) → i < length bs
     → {mark : ℕ} → mark ≡ keyMark k → (getD marks i 0 ≡ mark → ⊥) → hasKey x key n k (getD bs i 0) ≡ false
 other-mark x key n k bs marks f i h e d =
     rw (keys-differ (key (getD bs i 0)) k (λ z. d (f .each i h ∙ z ∙ sym e))) (and-false (eqb (nameOf x (getD bs i 0)) n))
+
+-- where the mark stands nowhere between, no element between has the key
+pub marks-past : (x : Fixed) (key : Element → Option (List ℕ)) (n : ℕ) (k : Option (List ℕ)) (bs marks : List ℕ) → KeyMarks key bs marks
+    → {mark : ℕ} → mark ≡ keyMark k → {i j : ℕ} → NoMark marks mark i j → let t = hasKey x key n k in firstOf t (drop i bs) ≡ firstOf t bs → firstOf t (drop j bs) ≡ firstOf t bs
+marks-past x key n k bs marks f e {i} {j} p left =
+    siblings-past (hasKey x key n k) bs (j - i) i (omega (arith, p .order)) (omega (arith, p .within, f .size))
+    (λ m a b. other-mark x key n k bs marks f m (omega (arith, b, p .within, f .size)) e (p .none m a b)) left
+
+-- ---- marks passed over
+
+module _ {marks : List ℕ} {mark : ℕ} where
+  pub no-mark-here : {k : ℕ} → k ≤ length marks → NoMark marks mark k k
+  no-mark-here h = record { order = omega arith; within = h; none = λ i a b. absurd (omega arith) }
+
+  no-mark-join : {from k to : ℕ} → NoMark marks mark from k → NoMark marks mark k to → NoMark marks mark from to
+  no-mark-join {from} {k} {to} f g =
+      record {
+        order = omega (arith, f .order, g .order);
+        within = g .within;
+        none = λ i a b. bool-split (ltb i k) (λ h. f .none i a (ltb-true i k h)) (λ h. g .none i (ltb-false i k h) b);
+      }
+
+  pub no-mark-more : {from k : ℕ} → NoMark marks mark from k → k < length marks → (getD marks k 0 ≡ mark → ⊥) → NoMark marks mark from (k + 1)
+  no-mark-more {from} {k} f h d =
+      no-mark-join f
+      (record { order = omega arith; within = omega arith; none = λ i a b z. let e : i ≡ k = omega arith in d (rw e at z) })
+
+  -- a part of them, as it is lent
+  pub no-mark-part : {from k to : ℕ} → NoMark marks mark from k → k ≤ to → to ≤ length marks
+      → NoMark (take (to - k) (drop k marks)) mark 0 (length (take (to - k) (drop k marks))) → NoMark marks mark from to
+  no-mark-part {from} {k} {to} f a b g =
+      let long = length-part marks k (to - k) (omega arith) in
+      no-mark-join f
+      (record {
+        order = a;
+        within = b;
+        none = λ i l h z.
+            let e : k + (i - k) ≡ i = omega arith in
+            g .none (i - k) (omega arith) (omega (arith, long)) (getD-part marks k (to - k) (i - k) (omega arith) ∙ rw e z);
+      })
+
+  -- the test of all so far, and of one more
+  pub none-more : (found : Bool) {k : ℕ} → (found ≡ false → NoMark marks mark 0 k) → k < length marks → (found || eqb (getD marks k 0) mark) ≡ false
+      → NoMark marks mark 0 (k + 1)
+  none-more true f h e = absurd (true≢false e)
+  none-more false {k} f h e = no-mark-more (f refl) h (eqb-false (getD marks k 0) mark e)
+
+  pub none-end : {k : ℕ} → length marks ≤ k → NoMark marks mark 0 k → NoMark marks mark 0 (length marks)
+  none-end {k} h f = let e : k ≡ length marks = omega (arith, f .within) in rw (← e) f
 
 -- ---- the mark of a key, byte by byte
 

@@ -3,7 +3,7 @@ use mathlib.Core.Bool.{Bool, true, false, _&&_}
 use mathlib.Core.List.{List, [], _∷_}
 use mathlib.Core.Option.{Option, none, some}
 use mathlib.Core.Path.{_≡_, refl, sym, ap, subst, _∙_}
-use Prim.Native.Nat.{ℕ, _+_, _-_, _<_, _≤_}
+use Prim.Native.Nat.{ℕ, zero, suc, _+_, _-_, _<_, _≤_}
 use native.Mathlib.Numerals.{add-one}
 use native.Mathlib.Omega.{arith}
 use borrow.Author.Tests.{eq-eqb, ne-eqb}
@@ -88,6 +88,13 @@ module _ (t : ℕ → Bool) (l : List ℕ) (i : ℕ) (left : firstOf t (drop i l
 
     pub siblings-found : t (getD l i 0) ≡ true → some (getD l i 0) ≡ firstOf t l
     siblings-found e = sym (first-yes t (getD l i 0) (drop (i + 1) l) e) ∙ here
+
+-- the n from i on fail the test
+pub siblings-past : (t : ℕ → Bool) (l : List ℕ) (n i : ℕ) {j : ℕ} → i + n ≡ j → j ≤ length l → ((m : ℕ) → i ≤ m → m < j → t (getD l m 0) ≡ false)
+    → firstOf t (drop i l) ≡ firstOf t l → firstOf t (drop j l) ≡ firstOf t l
+siblings-past t l zero i {j} e h fails left = let z : j ≡ i = omega arith in rw z left
+siblings-past t l (suc n) i e h fails left =
+    siblings-past t l n (i + 1) (omega arith) h (λ m a b. fails m (omega arith) b) (siblings-next t l i left (omega arith) (fails i (omega arith) (omega arith)))
 
 pub sibling-is : (x : Fixed) (key : Element → Option (List ℕ)) (bs : List ℕ) (a : ℕ) {n : ℕ} → n ≡ nameOf x a → {k : Option (List ℕ)} → k ≡ key a → firstOf (hasKey x key n k) bs ≡ sibling x key bs a
 unfolding sibling

@@ -31,6 +31,15 @@ module _ {A : Type 0} (f : ℕ → List A) where
   unfolding spread
   spread-done i e h = let k : e - i ≡ 0 = omega arith in rw k
 
+  -- some numbers, and then the others
+  pub spread-split : (i a b : ℕ) → spread f i (a + b) ≡ spread f i a ++ spread f (i + a) b
+  unfolding spread
+  spread-split i zero b = let e : 0 + b ≡ b = omega arith in let g : i + 0 ≡ i = omega arith in rw (e, g)
+  spread-split i (suc a) b =
+      let e : suc a + b ≡ suc (a + b) = omega arith in
+      let g : suc i + a ≡ i + suc a = omega arith in
+      rw (e, spread-split (suc i) a b, g) (sym (append-assoc (f i) (spread f (suc i) a) (spread f (i + suc a) b)))
+
   -- no entry for any
   pub spread-none : (i n : ℕ) → ((m : ℕ) → i ≤ m → m < i + n → f m ≡ []) → spread f i n ≡ []
   unfolding spread

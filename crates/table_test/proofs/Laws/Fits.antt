@@ -7,12 +7,12 @@ use native.Mathlib.Omega.{arith}
 use lib.ListN.{length, drop, length-set}
 use Rattle.tables.specs.Cells.{Each}
 use Rattle.tables.specs.Limits.{itemLimit}
-use Rattle.tables.specs.Lists.{insertAt, removeRun}
 use Rattle.tables.specs.LogTable.{logOf, HoldsLog}
 use Rattle.tables.specs.ModelTable.{flat, startOf, countOf, modelOf, ItemBelow, GoodModel, HoldsModel}
-use Rattle.tables.specs.Records.{Element, FileSet, Item, child, text, Model, Entry, Log, listOf, putParent, putSet, putList, insertItem, removeItems}
-use Rattle.tables.proofs.Laws.Cells.{each-imp}
-use Rattle.tables.proofs.Laws.Lists.{each-insertAt, each-removeRun, flat-insert, flat-remove}
+use Rattle.tables.specs.Records.{Element, FileSet, Item, child, text, Model, Entry, Log, listOf, putParent, putSet, putList, insertItem, insertItems, putItem, removeItems}
+use Rattle.tables.proofs.Laws.Cells.{each-set, each-imp}
+use Rattle.tables.proofs.Laws.Lists.{each-insertRun, each-removeRun, flat-insertRun, flat-remove, flat-set}
+use Rattle.tables.proofs.Laws.Model.{insertItems-one}
 use Rattle.table_test.specs.LogTest.{EntryIn}
 use Rattle.table_test.specs.Passing.{ItemTextIn}
 use Rattle.table_test.specs.Fits.{ModelFits, LogFits, KeepsModel}
@@ -48,15 +48,28 @@ module _ {n texts : ℕ} {xs ys : List ℕ} (f : ModelFits n texts xs) where
   unfolding putParent
   fits-parent e p h = held h (length-set (modelOf xs .parents) e p ∙ f .same) (f .items)
 
-  pub fits-insert : (e i : ℕ) (a : Item) → e < countOf (modelOf xs) → i ≤ length (listOf (modelOf xs) e) → ItemTextIn texts a
-      → HoldsModel ys (insertItem (modelOf xs) e i a) → ModelFits n texts ys
-  unfolding insertItem putList
-  fits-insert e i a low at within h =
+  pub fits-insertItems : (e i k : ℕ) (a : Item) → e < countOf (modelOf xs) → i ≤ length (listOf (modelOf xs) e) → ItemTextIn texts a
+      → HoldsModel ys (insertItems (modelOf xs) e i k a) → ModelFits n texts ys
+  unfolding insertItems putList
+  fits-insertItems e i k a low at within h =
       let m = modelOf xs in
       let count : e < length (m .lists) = omega (arith, f .good .sized .lists) in
       held h (f .same)
-      (subst (Each (ItemTextIn texts)) (sym (flat-insert (m .lists) e i a count at))
-      (each-insertAt (ItemTextIn texts) (flat (m .lists)) (startOf (m .lists) e + i) a (f .items) within))
+      (subst (Each (ItemTextIn texts)) (sym (flat-insertRun (m .lists) e i k a count at))
+      (each-insertRun (ItemTextIn texts) (flat (m .lists)) (startOf (m .lists) e + i) k a (f .items) within))
+
+  pub fits-insert : (e i : ℕ) (a : Item) → e < countOf (modelOf xs) → i ≤ length (listOf (modelOf xs) e) → ItemTextIn texts a
+      → HoldsModel ys (insertItem (modelOf xs) e i a) → ModelFits n texts ys
+  fits-insert e i a low at within h = fits-insertItems e i 1 a low at within (subst (HoldsModel ys) (sym (insertItems-one (modelOf xs) e i a)) h)
+
+  pub fits-put-item : (e i : ℕ) (a : Item) → i < length (listOf (modelOf xs) e) → ItemTextIn texts a
+      → HoldsModel ys (putItem (modelOf xs) e i a) → ModelFits n texts ys
+  unfolding putItem putList
+  fits-put-item e i a at within h =
+      let m = modelOf xs in
+      held h (f .same)
+      (subst (Each (ItemTextIn texts)) (sym (flat-set (m .lists) e i a at))
+      (each-set (ItemTextIn texts) (flat (m .lists)) (startOf (m .lists) e + i) a (f .items) within))
 
   pub fits-remove : (e i k : ℕ) → e < countOf (modelOf xs) → i + k ≤ length (listOf (modelOf xs) e) → HoldsModel ys (removeItems (modelOf xs) e i k)
       → ModelFits n texts ys

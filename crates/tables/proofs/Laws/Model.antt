@@ -4,13 +4,14 @@ use mathlib.Core.Logic.{_≢_}
 use mathlib.Core.Option.{Option, none, some}
 use mathlib.Core.Path.{_≡_, refl, sym, ap, _∙_}
 use Prim.Native.Nat.{ℕ, zero, suc, _+_, _-_, _≤_, _<_}
+use native.Mathlib.Numerals.{add-one}
 use native.Mathlib.Omega.{arith}
-use lib.ListN.{length, set, getD, length-append, length-set, List·getD-append, List·getD-map}
-use lib.Seq.{getD-set-same, getD-set-other, set-set, set-getD, getD-at}
-use Rattle.tables.specs.Lists.{insertAt, removeAt, removeRun, sum}
-use Rattle.tables.specs.Records.{Item, child, text, Model, contentItems, parentOf, setOf, listOf, putParent, putSet, putList, insertItem, removeItem, removeItems, addToModel}
+use lib.ListN.{length, set, getD, length-append, length-map, length-set, List·getD-append, List·getD-map}
+use lib.Seq.{getD-set-same, getD-set-other, set-set, set-getD, getD-at, map-set-same}
+use Rattle.tables.specs.Lists.{insertAt, removeAt, insertRun, removeRun, sum}
+use Rattle.tables.specs.Records.{Item, child, text, Model, contentItems, parentOf, setOf, listOf, putParent, putSet, putList, insertItem, insertItems, putItem, removeItem, removeItems, addToModel}
 use Rattle.tables.specs.ModelTable.{flat, startOf, countOf}
-use Rattle.tables.proofs.Laws.Lists.{length-insertAt, length-removeRun, removeAt-insertAt, insertAt-removeAt, map-set, length-flat, flat-append, flat-insert, flat-remove, start-fits}
+use Rattle.tables.proofs.Laws.Lists.{insertRun-one, length-insertRun, length-removeRun, removeRun-insertRun, insertAt-removeAt, removeRun-set, map-set, sum-more, length-flat, flat-append, flat-remove, start-fits}
 
 -- ---- a parent stored
 
@@ -99,7 +100,7 @@ module _ (m : Model) (e s : ℕ) where
       let l = set-set (m .sets) e s (setOf m e) ∙ set-getD (m .sets) e 0 in
       λ i. record { parents = m .parents; sets = l i; lists = m .lists }
 
--- ---- a list stored, an item inserted, an item removed
+-- ---- a list stored, items inserted, an item replaced, an item removed
 
 module _ (m : Model) (e : ℕ) where
   pub putList-same : putList m e (listOf m e) ≡ m
@@ -117,6 +118,10 @@ module _ (m : Model) (e : ℕ) where
   pub list-putList : (l : List Item) → e < length (m .lists) → listOf (putList m e l) e ≡ l
   unfolding putList
   list-putList l h = getD-set-same (m .lists) e l [] h
+
+  -- a list stored, and that one changed
+  putList-then : (f : List Item → List Item) (l : List Item) → e < length (m .lists) → putList (putList m e l) e (f (listOf (putList m e l) e)) ≡ putList m e (f l)
+  putList-then f l h = ap (λ (r : List Item). putList (putList m e l) e (f r)) (list-putList l h) ∙ putList-putList l (f l)
 
   pub list-putList-other : (l : List Item) (x : ℕ) → x ≢ e → listOf (putList m e l) x ≡ listOf m x
   unfolding putList
@@ -155,17 +160,59 @@ module _ (m : Model) (e i : ℕ) (a : Item) where
   unfolding insertItem
   list-insert-other x h = list-putList-other m e (insertAt (listOf m e) i a) x h
 
-  insert-putList-same : putList (insertItem m e i a) e (listOf m e) ≡ m
-  unfolding insertItem
-  insert-putList-same = putList-putList m e (insertAt (listOf m e) i a) (listOf m e) ∙ putList-same m e
+module _ (m : Model) (e i k : ℕ) (a : Item) where
+  pub count-insertItems : countOf (insertItems m e i k a) ≡ countOf m
+  unfolding insertItems putList
+  count-insertItems = refl
+
+  pub length-insertItems : length (insertItems m e i k a .lists) ≡ length (m .lists)
+  unfolding insertItems putList
+  length-insertItems = length-set (m .lists) e (insertRun (listOf m e) i k a)
+
+  pub list-insertItems : e < length (m .lists) → listOf (insertItems m e i k a) e ≡ insertRun (listOf m e) i k a
+  unfolding insertItems
+  list-insertItems h = list-putList m e (insertRun (listOf m e) i k a) h
+
+  pub length-list-insertItems : e < length (m .lists) → length (listOf (insertItems m e i k a) e) ≡ length (listOf m e) + k
+  length-list-insertItems h = ap length (list-insertItems h) ∙ length-insertRun (listOf m e) i k a
 
   -- inserted, and removed at the same place
-  pub remove-insert : e < length (m .lists) → i ≤ length (listOf m e) → removeItem (insertItem m e i a) e i ≡ m
-  unfolding removeItem
-  remove-insert h k =
-      ap (λ (l : List Item). putList (insertItem m e i a) e (removeAt l i)) (list-insert h)
-      ∙ ap (putList (insertItem m e i a) e) (removeAt-insertAt (listOf m e) i a k)
-      ∙ insert-putList-same
+  pub remove-insertItems : e < length (m .lists) → i ≤ length (listOf m e) → removeItems (insertItems m e i k a) e i k ≡ m
+  unfolding insertItems removeItems
+  remove-insertItems h b =
+      putList-then m e (λ (l : List Item). removeRun l i k) (insertRun (listOf m e) i k a) h
+      ∙ ap (putList m e) (removeRun-insertRun (listOf m e) i k a b)
+      ∙ putList-same m e
+
+module _ (m : Model) (e i : ℕ) (a : Item) where
+  -- once
+  pub insertItems-one : insertItems m e i 1 a ≡ insertItem m e i a
+  unfolding insertItems insertItem
+  insertItems-one = ap (putList m e) (insertRun-one (listOf m e) i a)
+
+  pub count-putItem : countOf (putItem m e i a) ≡ countOf m
+  unfolding putItem putList
+  count-putItem = refl
+
+  pub length-putItem : length (putItem m e i a .lists) ≡ length (m .lists)
+  unfolding putItem putList
+  length-putItem = length-set (m .lists) e (set (listOf m e) i a)
+
+  pub list-putItem : e < length (m .lists) → listOf (putItem m e i a) e ≡ set (listOf m e) i a
+  unfolding putItem
+  list-putItem h = list-putList m e (set (listOf m e) i a) h
+
+  pub length-list-putItem : e < length (m .lists) → length (listOf (putItem m e i a) e) ≡ length (listOf m e)
+  length-list-putItem h = ap length (list-putItem h) ∙ length-set (listOf m e) i a
+
+  -- of some that follow each other, the first replaced and the others removed
+  pub remove-putItem : (k : ℕ) → e < length (m .lists) → i < length (listOf m e)
+      → removeItems (putItem m e i a) e (suc i) k ≡ insertItem (removeItems m e i (suc k)) e i a
+  unfolding putItem removeItems insertItem
+  remove-putItem k h b =
+      putList-then m e (λ (l : List Item). removeRun l (suc i) k) (set (listOf m e) i a) h
+      ∙ ap (putList m e) (removeRun-set (listOf m e) i k a b)
+      ∙ sym (putList-then m e (λ (l : List Item). insertAt l i a) (removeRun (listOf m e) i (suc k)) h)
 
 module _ (m : Model) (e i : ℕ) where
   pub parents-remove : removeItem m e i .parents ≡ m .parents
@@ -200,17 +247,13 @@ module _ (m : Model) (e i : ℕ) where
   unfolding removeItem
   list-remove-other x h = list-putList-other m e (removeAt (listOf m e) i) x h
 
-  remove-putList-same : putList (removeItem m e i) e (listOf m e) ≡ m
-  unfolding removeItem
-  remove-putList-same = putList-putList m e (removeAt (listOf m e) i) (listOf m e) ∙ putList-same m e
-
   -- removed, and inserted at the same place
   pub insert-remove : (d : Item) → e < length (m .lists) → i < length (listOf m e) → insertItem (removeItem m e i) e i (getD (listOf m e) i d) ≡ m
-  unfolding insertItem
+  unfolding insertItem removeItem
   insert-remove d h k =
-      ap (λ (l : List Item). putList (removeItem m e i) e (insertAt l i (getD (listOf m e) i d))) (list-remove h)
-      ∙ ap (putList (removeItem m e i) e) (insertAt-removeAt (listOf m e) i d k)
-      ∙ remove-putList-same
+      putList-then m e (λ (l : List Item). insertAt l i (getD (listOf m e) i d)) (removeAt (listOf m e) i) h
+      ∙ ap (putList m e) (insertAt-removeAt (listOf m e) i d k)
+      ∙ putList-same m e
 
 -- ---- one more element
 
@@ -245,11 +288,15 @@ module _ (m : Model) (p : Option ℕ) (s : ℕ) where
 
 -- ---- lengths of the lists, and content items over all of them
 
-pub length-list-insert : (m : Model) (e i : ℕ) (a : Item) → e < length (m .lists)
-    → map length (set (m .lists) e (insertAt (listOf m e) i a)) ≡ set (map length (m .lists)) e (suc (getD (map length (m .lists)) e 0))
-length-list-insert m e i a h =
-    map-set length (m .lists) e (insertAt (listOf m e) i a)
-    ∙ ap (set (map length (m .lists)) e) (length-insertAt (listOf m e) i a ∙ ap suc (sym (List·getD-map length (m .lists) e [])))
+pub length-list-insert : (m : Model) (e i k : ℕ) (a : Item)
+    → map length (set (m .lists) e (insertRun (listOf m e) i k a)) ≡ set (map length (m .lists)) e (getD (map length (m .lists)) e 0 + k)
+length-list-insert m e i k a =
+    map-set length (m .lists) e (insertRun (listOf m e) i k a)
+    ∙ ap (set (map length (m .lists)) e)
+    (length-insertRun (listOf m e) i k a ∙ ap (λ (j : ℕ). j + k) (sym (List·getD-map length (m .lists) e [])))
+
+pub length-list-put : (m : Model) (e i : ℕ) (a : Item) → map length (set (m .lists) e (set (listOf m e) i a)) ≡ map length (m .lists)
+length-list-put m e i a = map-set-same length (m .lists) e (set (listOf m e) i a) [] (length-set (listOf m e) i a)
 
 pub length-list-remove : (m : Model) (e i k : ℕ) → e < length (m .lists) → i + k ≤ length (listOf m e)
     → map length (set (m .lists) e (removeRun (listOf m e) i k)) ≡ set (map length (m .lists)) e (getD (map length (m .lists)) e 0 - k)
@@ -259,14 +306,19 @@ length-list-remove m e i k h b =
     map-set length (m .lists) e (removeRun (listOf m e) i k)
     ∙ ap (set (map length (m .lists)) e) (n ∙ ap (λ (j : ℕ). j - k) (sym (List·getD-map length (m .lists) e [])))
 
+pub total-insertItems : (m : Model) (e i k : ℕ) (a : Item) → e < length (m .lists) → contentItems (insertItems m e i k a) ≡ contentItems m + k
+unfolding contentItems insertItems putList
+total-insertItems m e i k a h =
+    ap sum (length-list-insert m e i k a) ∙ sum-more (map length (m .lists)) e k (rw (length-map (m .lists) length) h)
+
 pub total-insert : (m : Model) (e i : ℕ) (a : Item) → e < length (m .lists) → i ≤ length (listOf m e)
     → contentItems (insertItem m e i a) ≡ suc (contentItems m)
-unfolding contentItems insertItem putList
 total-insert m e i a h k =
-    sym (length-flat (set (m .lists) e (insertAt (listOf m e) i a)))
-    ∙ ap length (flat-insert (m .lists) e i a h k)
-    ∙ length-insertAt (flat (m .lists)) (startOf (m .lists) e + i) a
-    ∙ ap suc (length-flat (m .lists))
+    ap contentItems (sym (insertItems-one m e i a)) ∙ total-insertItems m e i 1 a h ∙ add-one (contentItems m)
+
+pub total-putItem : (m : Model) (e i : ℕ) (a : Item) → contentItems (putItem m e i a) ≡ contentItems m
+unfolding contentItems putItem putList
+total-putItem m e i a = ap sum (length-list-put m e i a)
 
 pub total-remove : (m : Model) (e i k : ℕ) → e < length (m .lists) → i + k ≤ length (listOf m e) → contentItems (removeItems m e i k) + k ≡ contentItems m
 unfolding contentItems removeItems putList

@@ -9,18 +9,18 @@ use native.Mathlib.Numerals.{add-one}
 use native.Mathlib.Omega.{arith}
 use borrow.Author.Tests.{lt-ltb, le-ltb}
 use borrow.Rule.Slice.PartMut.{midOf, putMid}
-use lib.ListN.{length, set, getD, take, drop, replicate, length-append, length-map, length-set, List·getD-append, List·getD-map, replicate-append-replicate}
+use lib.ListN.{length, set, getD, take, drop, replicate, length-append, length-map, length-set, length-replicate, List·getD-append, List·getD-map, replicate-append-replicate}
 use lib.Seq.{take-at, drop-at, drop-drop}
 use Rattle.tables.specs.Cells.{padded, puts, rowCells, cells, rowsOf, Each}
 use Rattle.tables.specs.Limits.{elementLimit, itemLimit}
-use Rattle.tables.specs.Lists.{insertAt, removeRun, sum}
+use Rattle.tables.specs.Lists.{insertRun, removeRun, sum}
 use Rattle.tables.specs.FileSets.{noSet}
 use Rattle.tables.specs.SetCells.{setWidth, setCells, cellsSet}
-use Rattle.tables.specs.Records.{FileSet, Item, child, text, Model, contentItems, parentOf, setOf, listOf, putParent, putSet, putList, insertItem, removeItems, addToModel}
+use Rattle.tables.specs.Records.{FileSet, Item, child, text, Model, contentItems, parentOf, setOf, listOf, putParent, putSet, putList, insertItems, putItem, removeItems, addToModel}
 use Rattle.tables.specs.ModelTable.{parentsAt, setsAt, startsAt, itemsAt, modelSize, parentCell, cellParent, itemCell, cellItem, sums, gaps, gapsOf, flat, startOf, cut, countOf, encodeModel, modelOf, ParentBelow, ItemBelow, SizedModel, GoodModel, HoldsModel, shiftIn, shiftOut, onFrom, noModel}
 use Rattle.tables.proofs.Laws.Cells.{set-inside, getD-inside, getD-behind, length-padded, getD-padded, set-padded, set-behind-padded, take-padded, padded-more, mid-padded, put-padded, each-getD, each-set, each-append, each-all, each-imp, length-cells, last-back, getD-rowsOf, put-last, append-last}
-use Rattle.tables.proofs.Laws.Lists.{length-insertAt, length-removeRun, each-insertAt, each-removeRun, map-set, map-insertAt, map-removeRun, map-then, map-back, length-flat, flat-append, flat-insert, flat-remove, getD-flat, start-fits, start-end, start-next, cut-flat, length-shiftIn, length-shiftOut, shiftIn-room}
-use Rattle.tables.proofs.Laws.Model.{length-list-insert, length-list-remove, total-insert, total-remove, flat-add, total-add}
+use Rattle.tables.proofs.Laws.Lists.{length-removeRun, each-insertRun, each-removeRun, map-set, map-insertRun, map-removeRun, map-then, map-back, length-flat, flat-append, flat-insertRun, flat-remove, flat-set, getD-flat, start-fits, start-end, start-next, cut-flat, length-shiftIn, length-shiftOut, shiftIn-room}
+use Rattle.tables.proofs.Laws.Model.{length-list-insert, length-list-put, length-list-remove, total-insertItems, total-putItem, total-remove, flat-add, total-add}
 use Rattle.tables.proofs.Laws.SetCells.{set-back, wide-set}
 use Rattle.tables.proofs.Laws.Starts.{length-sums, gaps-sums, sums-at, sums-insert, sums-remove, sums-append, sums-most, sums-past}
 
@@ -363,22 +363,61 @@ store-set xs e s g h =
     in
     hold (putSet m e s) _ t (sized-putSet m e s (g .sized))
 
--- ---- a list that changes
-
-sized-insert : (m : Model) (e i : ℕ) (a : Item) → SizedModel m → e < countOf m → i ≤ length (listOf m e) → contentItems m < itemLimit
-    → ItemBelow (countOf m) a → SizedModel (insertItem m e i a)
-unfolding insertItem putList
-sized-insert m e i a s h k t b =
-    let z = total-insert m e i a (omega (arith, s .lists)) k in
+sized-putItem : (m : Model) (e i : ℕ) (a : Item) → SizedModel m → i < length (listOf m e) → ItemBelow (countOf m) a → SizedModel (putItem m e i a)
+unfolding putItem putList
+sized-putItem m e i a s k b =
+    let z = total-putItem m e i a in
     record {
       sets = s .sets;
-      lists = length-set (m .lists) e (insertAt (listOf m e) i a) ∙ s .lists;
+      lists = length-set (m .lists) e (set (listOf m e) i a) ∙ s .lists;
+      count = s .count;
+      total = rw z (s .total);
+      parentsIn = s .parentsIn;
+      itemsIn = rw (flat-set (m .lists) e i a k) (each-set (ItemBelow (countOf m)) (flat (m .lists)) (startOf (m .lists) e + i) a (s .itemsIn) b);
+    }
+
+pub store-item : (xs : List ℕ) (e i : ℕ) (a : Item) → GoodModel xs → i < length (listOf (modelOf xs) e) → ItemBelow (countOf (modelOf xs)) a
+    → HoldsModel (set xs (itemsAt + (startOf (modelOf xs .lists) e + i)) (itemCell a)) (putItem (modelOf xs) e i a)
+unfolding putItem putList
+store-item xs e i a g h b =
+    let m = modelOf xs in
+    let at = startOf (m .lists) e + i in
+    let us = map itemCell (flat (m .lists)) in
+    let r = start-room xs g e (listed-below xs g e i h) in
+    let j : at < length us = rw (length-itemsUsed m (g .sized)) (omega arith) in
+    let k : at < length (itemArea m) = rw (length-itemArea m (g .sized)) (omega (arith, g .sized .total)) in
+    let starts : startArea m ≡ startArea (putItem m e i a) =
+    ap (λ (ns : List ℕ). padded (suc elementLimit) (sums 0 ns)) (sym (length-list-put m e i a))
+    in
+    let items : set (itemArea m) at (itemCell a) ≡ itemArea (putItem m e i a) =
+    set-padded itemLimit us at (itemCell a) j
+    ∙ ap (padded itemLimit) (sym (map-set itemCell (flat (m .lists)) at a) ∙ ap (map itemCell) (sym (flat-set (m .lists) e i a h)))
+    in
+    let s = sized-putItem m e i a (g .sized) h b in
+    let t : set xs (itemsAt + at) (itemCell a) ≡ encodeModel (putItem m e i a) =
+    ap (λ (l : List ℕ). set l (itemsAt + at) (itemCell a)) (g .raw ∙ around-items m (g .sized))
+    ∙ set-inside (countOf m ∷ (parentArea m ++ startArea m)) (itemArea m) (setArea m) itemsAt at (itemCell a) (before-items m (g .sized)) k
+    ∙ (λ z. (countOf m ∷ (parentArea m ++ starts z)) ++ (items z ++ setArea m))
+    ∙ sym (around-items (putItem m e i a) s)
+    in
+    hold (putItem m e i a) (set xs (itemsAt + at) (itemCell a)) t s
+
+-- ---- a list that changes
+
+sized-insert : (m : Model) (e i k : ℕ) (a : Item) → SizedModel m → e < countOf m → i ≤ length (listOf m e) → contentItems m + k ≤ itemLimit
+    → ItemBelow (countOf m) a → SizedModel (insertItems m e i k a)
+unfolding insertItems putList
+sized-insert m e i k a s h l t b =
+    let z = total-insertItems m e i k a (omega (arith, s .lists)) in
+    record {
+      sets = s .sets;
+      lists = length-set (m .lists) e (insertRun (listOf m e) i k a) ∙ s .lists;
       count = s .count;
       total = rw z t;
       parentsIn = s .parentsIn;
       itemsIn =
-          rw (flat-insert (m .lists) e i a (omega (arith, s .lists)) k)
-          (each-insertAt (ItemBelow (countOf m)) (flat (m .lists)) (startOf (m .lists) e + i) a (s .itemsIn) b);
+          rw (flat-insertRun (m .lists) e i k a (omega (arith, s .lists)) l)
+          (each-insertRun (ItemBelow (countOf m)) (flat (m .lists)) (startOf (m .lists) e + i) k a (s .itemsIn) b);
     }
 
 sized-remove : (m : Model) (e i k : ℕ) → SizedModel m → e < countOf m → i + k ≤ length (listOf m e) → SizedModel (removeItems m e i k)
@@ -482,51 +521,52 @@ module _ (xs : List ℕ) (g : GoodModel xs) where
         in
         hold m′ (putMid startsAt l (putMid itemsAt k xs ps) qs) t sized
 
-  -- ---- an item inserted
+  -- ---- items inserted
 
-  module _ (e i : ℕ) (a : Item) (h : e < countOf (modelOf xs)) (le : i ≤ length (listOf (modelOf xs) e)) (few : contentItems (modelOf xs) < itemLimit) where
-    insert-room : itemArea (modelOf xs) ≡ padded itemLimit (map itemCell (flat (modelOf xs .lists)) ++ (0 ∷ []))
-    insert-room = padded-more itemLimit (map itemCell (flat (modelOf xs .lists))) 1 (rw (length-itemsUsed (modelOf xs) (g .sized)) (omega arith))
+  module _ (e i n : ℕ) (a : Item) (h : e < countOf (modelOf xs)) (le : i ≤ length (listOf (modelOf xs) e))
+      (few : contentItems (modelOf xs) + n ≤ itemLimit) where
+    insert-room : itemArea (modelOf xs) ≡ padded itemLimit (map itemCell (flat (modelOf xs .lists)) ++ replicate n 0)
+    insert-room = padded-more itemLimit (map itemCell (flat (modelOf xs .lists))) n (rw (length-itemsUsed (modelOf xs) (g .sized)) few)
 
-    insert-size : suc (contentItems (modelOf xs)) ≡ length (map itemCell (flat (modelOf xs .lists)) ++ (0 ∷ []))
+    insert-size : contentItems (modelOf xs) + n ≡ length (map itemCell (flat (modelOf xs .lists)) ++ replicate n 0)
     insert-size =
-        let z = length-append (map itemCell (flat (modelOf xs .lists))) (0 ∷ []) in
-        omega (arith, length-itemsUsed (modelOf xs) (g .sized))
+        let us = map itemCell (flat (modelOf xs .lists)) in
+        omega (arith, length-append us (replicate n 0), length-replicate {A = ℕ} n 0, length-itemsUsed (modelOf xs) (g .sized))
 
-    insert-keeps : length (shiftIn (map itemCell (flat (modelOf xs .lists)) ++ (0 ∷ [])) (startOf (modelOf xs .lists) e + i) (itemCell a))
-        ≡ length (map itemCell (flat (modelOf xs .lists)) ++ (0 ∷ []))
-    insert-keeps = length-shiftIn (map itemCell (flat (modelOf xs .lists)) ++ (0 ∷ [])) (startOf (modelOf xs .lists) e + i) (itemCell a)
+    insert-keeps : length (shiftIn (map itemCell (flat (modelOf xs .lists)) ++ replicate n 0) (startOf (modelOf xs .lists) e + i) n (itemCell a))
+        ≡ length (map itemCell (flat (modelOf xs .lists)) ++ replicate n 0)
+    insert-keeps =
+        let s = insert-size in
+        length-shiftIn (map itemCell (flat (modelOf xs .lists)) ++ replicate n 0) (startOf (modelOf xs .lists) e + i) n (itemCell a) (omega arith)
 
-    insert-items : shiftIn (map itemCell (flat (modelOf xs .lists)) ++ (0 ∷ [])) (startOf (modelOf xs .lists) e + i) (itemCell a)
-        ≡ map itemCell (flat (set (modelOf xs .lists) e (insertAt (listOf (modelOf xs) e) i a)))
+    insert-items : shiftIn (map itemCell (flat (modelOf xs .lists)) ++ replicate n 0) (startOf (modelOf xs .lists) e + i) n (itemCell a)
+        ≡ map itemCell (flat (set (modelOf xs .lists) e (insertRun (listOf (modelOf xs) e) i n a)))
     insert-items =
         let m = modelOf xs in
         let at = startOf (m .lists) e + i in
-        let r = start-room xs g e h in
-        let j : at ≤ length (map itemCell (flat (m .lists))) = rw (length-itemsUsed m (g .sized)) (omega arith) in
-        shiftIn-room (map itemCell (flat (m .lists))) at (itemCell a) j
-        ∙ sym (map-insertAt itemCell (flat (m .lists)) at a)
-        ∙ ap (map itemCell) (sym (flat-insert (m .lists) e i a (omega (arith, g .sized .lists)) le))
+        shiftIn-room (map itemCell (flat (m .lists))) at n (itemCell a)
+        ∙ sym (map-insertRun itemCell (flat (m .lists)) at n a)
+        ∙ ap (map itemCell) (sym (flat-insertRun (m .lists) e i n a (omega (arith, g .sized .lists)) le))
 
-    module _ (k l : ℕ) (ps : List ℕ) (kk : k ≡ suc (contentItems (modelOf xs))) (ll : l ≡ suc (countOf (modelOf xs)))
-        (pp : ps ≡ shiftIn (midOf itemsAt k xs) (startOf (modelOf xs .lists) e + i) (itemCell a)) where
+    module _ (k l : ℕ) (ps : List ℕ) (kk : k ≡ contentItems (modelOf xs) + n) (ll : l ≡ suc (countOf (modelOf xs)))
+        (pp : ps ≡ shiftIn (midOf itemsAt k xs) (startOf (modelOf xs .lists) e + i) n (itemCell a)) where
       pub insert-starts : midOf startsAt l (putMid itemsAt k xs ps) ≡ sums 0 (map length (modelOf xs .lists))
       insert-starts =
-          starts-kept (map itemCell (flat (modelOf xs .lists)) ++ (0 ∷ [])) insert-room (λ (z : List ℕ). shiftIn z (startOf (modelOf xs .lists) e + i) (itemCell a)) insert-keeps k l ps (kk ∙ insert-size) ll pp
+          starts-kept (map itemCell (flat (modelOf xs .lists)) ++ replicate n 0) insert-room (λ (z : List ℕ). shiftIn z (startOf (modelOf xs .lists) e + i) n (itemCell a)) insert-keeps k l ps (kk ∙ insert-size) ll pp
 
       pub store-insert : (qs : List ℕ) → ItemBelow (countOf (modelOf xs)) a
-          → qs ≡ onFrom (λ (x : ℕ). x + 1) (midOf startsAt l (putMid itemsAt k xs ps)) (e + 1)
-          → HoldsModel (putMid startsAt l (putMid itemsAt k xs ps) qs) (insertItem (modelOf xs) e i a)
-      unfolding insertItem putList
+          → qs ≡ onFrom (λ (x : ℕ). x + n) (midOf startsAt l (putMid itemsAt k xs ps)) (e + 1)
+          → HoldsModel (putMid startsAt l (putMid itemsAt k xs ps) qs) (insertItems (modelOf xs) e i n a)
+      unfolding insertItems putList
       store-insert qs b qq =
           let m = modelOf xs in
           let ns = map length (m .lists) in
-          let n : e < length ns = rw (length-map (m .lists) length) (omega (arith, g .sized .lists)) in
-          store-lists (map itemCell (flat (m .lists)) ++ (0 ∷ [])) insert-room (λ (z : List ℕ). shiftIn z (startOf (m .lists) e + i) (itemCell a)) insert-keeps k l ps (kk ∙ insert-size) ll pp
-          (set (m .lists) e (insertAt (listOf m e) i a)) (λ (x : ℕ). x + 1) e qs
+          let o : e < length ns = rw (length-map (m .lists) length) (omega (arith, g .sized .lists)) in
+          store-lists (map itemCell (flat (m .lists)) ++ replicate n 0) insert-room (λ (z : List ℕ). shiftIn z (startOf (m .lists) e + i) n (itemCell a)) insert-keeps k l ps (kk ∙ insert-size) ll pp
+          (set (m .lists) e (insertRun (listOf m e) i n a)) (λ (x : ℕ). x + n) e qs
           (ap (padded itemLimit) insert-items)
-          (sums-insert 0 ns e n ∙ ap (sums 0) (sym (length-list-insert m e i a (omega (arith, g .sized .lists)))))
-          qq (sized-insert m e i a (g .sized) h le few b)
+          (sums-insert 0 ns e n o ∙ ap (sums 0) (sym (length-list-insert m e i n a)))
+          qq (sized-insert m e i n a (g .sized) h le few b)
 
   -- ---- items removed
 

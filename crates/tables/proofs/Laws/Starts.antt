@@ -32,12 +32,12 @@ sums-at a (l ∷ ls) zero h = sym (add-zero a)
 sums-at a (l ∷ ls) (suc e) h = sums-at (a + length l) ls e (le-of-suc-le-suc h) ∙ omega arith
 
 -- the numbers on which the starts after the first are raised and lowered
-pub sums-raised : (a : ℕ) (ns : List ℕ) → onFrom (λ (x : ℕ). x + 1) (sums a ns) zero ≡ sums (a + 1) ns
+pub sums-raised : (a : ℕ) (ns : List ℕ) (k : ℕ) → onFrom (λ (x : ℕ). x + k) (sums a ns) zero ≡ sums (a + k) ns
 unfolding sums onFrom
-sums-raised a [] = refl
-sums-raised a (n ∷ ns) =
-    let z : a + n + 1 ≡ a + 1 + n = omega arith in
-    ap (λ (r : List ℕ). (a + 1) ∷ r) (sums-raised (a + n) ns ∙ ap (λ (k : ℕ). sums k ns) z)
+sums-raised a [] k = refl
+sums-raised a (n ∷ ns) k =
+    let z : a + n + k ≡ a + k + n = omega arith in
+    ap (λ (r : List ℕ). (a + k) ∷ r) (sums-raised (a + n) ns k ∙ ap (λ (j : ℕ). sums j ns) z)
 
 pub sums-lowered : (a : ℕ) (ns : List ℕ) (k : ℕ) → k ≤ a → onFrom (λ (x : ℕ). x - k) (sums a ns) zero ≡ sums (a - k) ns
 unfolding sums onFrom
@@ -46,15 +46,15 @@ sums-lowered a (n ∷ ns) k h =
     let z : a + n - k ≡ a - k + n = omega arith in
     ap (λ (r : List ℕ). (a - k) ∷ r) (sums-lowered (a + n) ns k (omega arith) ∙ ap (λ (j : ℕ). sums j ns) z)
 
--- one list longer by one, one list shorter by k
-pub sums-insert : (a : ℕ) (ns : List ℕ) (e : ℕ) → e < length ns
-    → onFrom (λ (x : ℕ). x + 1) (sums a ns) (suc e) ≡ sums a (set ns e (suc (getD ns e 0)))
+-- one list longer by k, one list shorter by k
+pub sums-insert : (a : ℕ) (ns : List ℕ) (e k : ℕ) → e < length ns
+    → onFrom (λ (x : ℕ). x + k) (sums a ns) (suc e) ≡ sums a (set ns e (getD ns e 0 + k))
 unfolding sums onFrom
-sums-insert a [] e h = absurd (not-suc-le-zero h)
-sums-insert a (n ∷ ns) zero h =
-    let z : a + n + 1 ≡ a + suc n = omega arith in
-    ap (λ (r : List ℕ). a ∷ r) (sums-raised (a + n) ns ∙ ap (λ (k : ℕ). sums k ns) z)
-sums-insert a (n ∷ ns) (suc e) h = ap (λ (r : List ℕ). a ∷ r) (sums-insert (a + n) ns e (le-of-suc-le-suc h))
+sums-insert a [] e k h = absurd (not-suc-le-zero h)
+sums-insert a (n ∷ ns) zero k h =
+    let z : a + n + k ≡ a + (n + k) = omega arith in
+    ap (λ (r : List ℕ). a ∷ r) (sums-raised (a + n) ns k ∙ ap (λ (j : ℕ). sums j ns) z)
+sums-insert a (n ∷ ns) (suc e) k h = ap (λ (r : List ℕ). a ∷ r) (sums-insert (a + n) ns e k (le-of-suc-le-suc h))
 
 pub sums-remove : (a : ℕ) (ns : List ℕ) (e k : ℕ) → e < length ns → k ≤ getD ns e 0
     → onFrom (λ (x : ℕ). x - k) (sums a ns) (suc e) ≡ sums a (set ns e (getD ns e 0 - k))

@@ -21,9 +21,6 @@ loop-holds c =
     let a = c .before .before .args in
     (omega (arith, c .list-length .ensures), back-start (a .e .0) (listOf (modelOf (a .model .now)) (a .p .0)) _ (c .list-length .ensures))
 
-item-at-requires : tie.Need-item-at-requires Inv-loop μ-loop
-item-at-requires c κs = search needs
-
 returns : tie.Need-returns Inv-loop μ-loop
 returns c =
     let s = c .before .before .before .before .before .before .before in
@@ -50,7 +47,7 @@ last-place-of-spec =
     (λ c κs. search needs)
     loop-holds
     (λ c. search needs)
-    item-at-requires
+    (λ c κs. search needs)
     (λ c κs. search needs)
     returns
     (λ c. search needs)

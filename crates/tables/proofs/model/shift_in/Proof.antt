@@ -12,8 +12,8 @@ use Rattle.tables.proofs.model.shift_in.Tie as tie
 returns : tie.Need-returns
 returns c =
     let a = c .before .before .before .before .before .args in
-    let k = length (a .s .now) - a .i in
-    ap (putMid (a .i) k (a .s .now)) (c .before .before .put-first .ensures) ∙ shiftIn-part (a .s .now) (a .i) k (a .v) (omega arith)
+    let n = length (a .s .now) - a .i in
+    ap (putMid (a .i) n (a .s .now)) (c .before .before .put-front .ensures) ∙ shiftIn-part (a .s .now) (a .i) n (a .k) (a .v) (omega arith) (omega arith)
 
 pub shift-in-spec : {M : Type 1} → statement M
 shift-in-spec =

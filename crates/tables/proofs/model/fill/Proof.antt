@@ -1,4 +1,4 @@
--- `tables::model::clear` meets its contract. Assumes nothing.
+-- `tables::model::fill` meets its contract. Assumes nothing.
 use mathlib.Core.List.{List, _++_}
 use mathlib.Core.Path.{_≡_, refl, ap, _∙_}
 use Prim.Native.Nat.{ℕ, _-_, _≤_}
@@ -7,14 +7,14 @@ use borrow.Author.Fill.{fill-more}
 use borrow.Author.Needs.{needs}
 use lib.ListN.{length, set, drop, replicate, length-set}
 use Rattle.tables.proofs.Laws.Lists.{filled}
-use Rattle.tables.proofs.model.clear.Statement.{statement}
-use Rattle.tables.proofs.model.clear.Tie as tie
+use Rattle.tables.proofs.model.fill.Statement.{statement}
+use Rattle.tables.proofs.model.fill.Tie as tie
 
 abbrev Inv-loop : tie.InvT-loop
-Inv-loop table₀ j₀ table j = (table ≡ replicate j 0 ++ drop j table₀) × (length table ≡ length table₀) × (j ≤ length table₀)
+Inv-loop table₀ v j₀ table j = (table ≡ replicate j v ++ drop j table₀) × (length table ≡ length table₀) × (j ≤ length table₀)
 
 abbrev μ-loop : tie.MeasureT-loop
-μ-loop table₀ j₀ table j = length table₀ - j
+μ-loop table₀ v j₀ table j = length table₀ - j
 
 loop-holds : tie.Need-loop-holds Inv-loop μ-loop
 loop-holds c = (refl, refl, omega arith)
@@ -22,16 +22,17 @@ loop-holds c = (refl, refl, omega arith)
 loop-again : tie.Need-loop-again Inv-loop μ-loop
 loop-again c =
     let l = c .before .loop in
-    let t = c .before .before .args .table .now in
-    (ap (λ (r : List ℕ). set r (l .j) 0) (l .inv .0) ∙ fill-more (l .j) 0 t (omega arith), simp length-set (l .inv .1), omega arith)
+    let a = c .before .before .args in
+    (ap (λ (r : List ℕ). set r (l .j) (a .v)) (l .inv .0) ∙ fill-more (l .j) (a .v) (a .table .now) (omega arith), simp length-set (l .inv .1), omega arith)
 
 returns : tie.Need-returns Inv-loop μ-loop
 returns c =
     let l = c .before .loop in
-    filled (l .j) (l .table) (c .before .before .args .table .now) (l .inv .0) (omega arith)
+    let a = c .before .before .args in
+    filled (l .j) (a .v) (l .table) (a .table .now) (l .inv .0) (omega arith)
 
-pub clear-spec : {M : Type 1} → statement M
-clear-spec =
+pub fill-spec : {M : Type 1} → statement M
+fill-spec =
     tie.close
     (tie.spec
     Inv-loop

@@ -1,0 +1,2 @@
+// What the programs that forge tables share.
+pub mod table;
