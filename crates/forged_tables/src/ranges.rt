@@ -100,23 +100,23 @@ fn forge_model(t: &mut [u64]) {
     forge(t, 35, MODEL, &[0, 4]);
     forge(t, 36, MODEL + PARENTS_AT, &[1, 6]);
     forge(t, 37, MODEL + STARTS_AT, &[2, 0, 5, 2049]);
-    forge(t, 39, MODEL + ITEMS_AT, &[0, 5, 0, 2, 1, TEXT + 3, 3, 3]);
-    forge(t, 43, MODEL + ITEMS_AT + ITEM_LIMIT - 1, &[0, 1]);
-    forge(t, 44, MODEL + SETS_AT + 5 * SET_WIDTH, &[0, 1]);
+    forge(t, 39, MODEL + ITEMS_AT, &[0, 5, 1, TEXT + 3, 3, 3]);
+    forge(t, 42, MODEL + ITEMS_AT + ITEM_LIMIT - 1, &[0, 1]);
+    forge(t, 43, MODEL + SETS_AT + 5 * SET_WIDTH, &[0, 1]);
 }
 
 fn forge_log(t: &mut [u64]) {
-    forge(t, 45, LOG, &[0, 1025]);
-    forge(t, 46, LOG + ENTRIES_AT, &[0, 3, 1, 5]);
-    forge(t, 48, LOG + ENTRIES_AT + ENTRY_WIDTH, &[2, 1]);
-    forge(t, 49, LOG + ENTRIES_AT + 2 * ENTRY_WIDTH, &[2, 64, 3, 1]);
+    forge(t, 44, LOG, &[0, 1025]);
+    forge(t, 45, LOG + ENTRIES_AT, &[0, 3, 1, 5]);
+    forge(t, 47, LOG + ENTRIES_AT + ENTRY_WIDTH, &[2, 1]);
+    forge(t, 48, LOG + ENTRIES_AT + 2 * ENTRY_WIDTH, &[2, 64, 3, 1]);
     forge(
         t,
-        51,
+        50,
         LOG + ENTRIES_AT + 2 * ENTRY_WIDTH + OLD_SET_AT,
         &[0, 1],
     );
-    forge(t, 52, CELLS - 1, &[0, 1]);
+    forge(t, 51, CELLS - 1, &[0, 1]);
 }
 
 // A table with a cell too few in the place of each.
@@ -128,10 +128,10 @@ fn sizes(t: &[u64], short: &[u64]) {
     let elements = &t[ELEMENTS..MODEL];
     let model = &t[MODEL..LOG];
     let log = &t[LOG..CELLS];
-    ask_of(53, short, elements, model, log);
-    ask_of(54, schema, short, model, log);
-    ask_of(55, schema, elements, short, log);
-    ask_of(56, schema, elements, model, short);
+    ask_of(52, short, elements, model, log);
+    ask_of(53, schema, short, model, log);
+    ask_of(54, schema, elements, short, log);
+    ask_of(55, schema, elements, model, short);
 }
 
 fn build(t: &mut [u64]) {
@@ -154,7 +154,7 @@ fn ask_all(t: &mut [u64], short: &[u64]) {
     ask(0, t);
     forge_all(t);
     sizes(t, short);
-    ask(57, t);
+    ask(56, t);
 }
 
 pub fn run() {

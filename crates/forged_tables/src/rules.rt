@@ -215,21 +215,25 @@ fn forge_listed(t: &mut [u64]) {
     forge(t, 44, ROWS_AT + 3 * ROW_WIDTH, &[6, 0]);
 }
 
-// What the test of the tables alone refuses: a root's depth, of the model and of a waiting tree.
+// Depths: of the roots of the model and of a waiting tree; of listed elements, two deeper than the owner and as deep as it; and another element
+// listed, as deep as its owner.
 fn forge_depths(t: &mut [u64]) {
     forge(t, 45, ELEMENTS + ELEMENTS_AT, &[2, 1]);
     forge(t, 46, ELEMENTS + ELEMENTS_AT + 4 * ELEMENT_WIDTH, &[2, 1]);
+    forge(t, 47, ELEMENTS + ELEMENTS_AT + ELEMENT_WIDTH, &[2, 2]);
+    forge(t, 48, ELEMENTS + ELEMENTS_AT + 3 * ELEMENT_WIDTH, &[2, 1]);
+    forge(t, 49, MODEL + ITEMS_AT, &[3, 1]);
 }
 
 // Of each index the heads: a row of another bucket, the row before the latest, no row's; and the links: to a row of another bucket, past the
 // rows, no row's.
 fn forge_indexes(t: &mut [u64]) {
-    forge(t, 48, GROUP_INDEX_AT, &[152, 4, 152, 3, 0, 1]);
-    forge(t, 51, GROUP_INDEX_AT + BUCKETS, &[5, 4, 5, 7, 6, 1]);
-    forge(t, 54, NAME_INDEX_AT, &[153, 6, 153, 4, 0, 1]);
-    forge(t, 57, NAME_INDEX_AT + BUCKETS, &[6, 6, 6, 8, 7, 1]);
-    forge(t, 60, PATH_INDEX_AT, &[151, 6, 151, 5, 0, 1]);
-    forge(t, 63, PATH_INDEX_AT + BUCKETS, &[6, 6, 6, 8, 7, 1]);
+    forge(t, 51, GROUP_INDEX_AT, &[152, 4, 152, 3, 0, 1]);
+    forge(t, 54, GROUP_INDEX_AT + BUCKETS, &[5, 4, 5, 7, 6, 1]);
+    forge(t, 57, NAME_INDEX_AT, &[153, 6, 153, 4, 0, 1]);
+    forge(t, 60, NAME_INDEX_AT + BUCKETS, &[6, 6, 6, 8, 7, 1]);
+    forge(t, 63, PATH_INDEX_AT, &[151, 6, 151, 5, 0, 1]);
+    forge(t, 66, PATH_INDEX_AT + BUCKETS, &[6, 6, 6, 8, 7, 1]);
 }
 
 fn build(t: &mut [u64]) {
@@ -253,9 +257,9 @@ fn ask_all(t: &mut [u64]) {
     build(t);
     ask(0, t);
     forge_all(t);
-    ask(47, t);
+    ask(50, t);
     forge_indexes(t);
-    ask(66, t);
+    ask(69, t);
 }
 
 pub fn run() {

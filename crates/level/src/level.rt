@@ -21,11 +21,11 @@ use tables::numbers::FileNumber;
 ghost use mathlib.Core.Bool.{true};
 ghost use mathlib.Core.List.{List, []};
 ghost use mathlib.Core.Path.{_≡_};
-ghost use Prim.Native.Nat.{ℕ, suc, _+_, _*_, _<_, _≤_};
+ghost use Prim.Native.Nat.{ℕ, _+_, _*_, _<_, _≤_};
 ghost use lib.ListN.{length};
 ghost use Rattle.tables.specs.Cells.{Each};
 ghost use Rattle.tables.specs.ElementsTable.{elementsOf, GoodElements};
-ghost use Rattle.tables.specs.Limits.{fileLimit, itemLimit, versionLimit};
+ghost use Rattle.tables.specs.Limits.{fileLimit, versionLimit};
 ghost use Rattle.tables.specs.LogTable.{GoodLog};
 ghost use Rattle.tables.specs.ModelTable.{countOf, modelOf, GoodModel};
 ghost use Rattle.tables.specs.Records.{listOf};
@@ -39,10 +39,10 @@ ghost use Rattle.merge_rules.specs.Level.{restrictElements, mergeElement, merge
 ghost use Rattle.merge_rules.specs.Pairing.{childrenOf};
 ghost use Rattle.pairing.specs.Plans.{planIn, RowsIn};
 ghost use Rattle.changes.specs.Answers.{outcomeIs};
-ghost use Rattle.level.specs.Level.{restrictNew, applyPlan, Bare};
+ghost use Rattle.level.specs.Level.{restrictNew, applyPlan, mergePair, Bare};
 
 // Cells for the plan of any level.
-pub const WORK_SIZE: usize = 7 * ITEM_LIMIT;
+const WORK_SIZE: usize = 7 * ITEM_LIMIT;
 
 // Cells for the plan of the level of a and b.
 fn level_room(model: &[u64], a: Element, b: Element) -> usize
@@ -50,7 +50,6 @@ fn level_room(model: &[u64], a: Element, b: Element) -> usize
     requires { ⌜ a .0 < countOf (modelOf (now model)) ⌝ }
     requires { ⌜ b .0 < countOf (modelOf (now model)) ⌝ }
     ensures { λ r. ⌜ r ≡ 2 * length (listOf (modelOf (now (model .entry))) (a .0)) + 5 * length (listOf (modelOf (now (model .entry))) (b .0)) ⌝ }
-    ensures { λ r. ⌜ r ≤ 7 * itemLimit ⌝ }
 {
     2 * list_length(model, a) + 5 * list_length(model, b)
 }
@@ -170,14 +169,13 @@ fn apply_plan(
     r
 }
 
-// Level: b is merged into a. At depth 0, where no listed element is, refusal 6.
-pub fn merge_element(
+// Level with a scratch slice of its own: at the root, and where the plan of a pair has no room in the slice that it was handed.
+pub fn merge_apart(
     deck: &[u8],
     schema: &[u64],
     elements: &[u64],
     model: &mut [u64],
     log: &mut [u64],
-    work: &mut [u16],
     f: FileNumber,
     version: u64,
     files: FileSet,
@@ -194,66 +192,8 @@ pub fn merge_element(
     ensures { λ r. ⌜ outcomeIs r (stateIn (now (model .exit)) (now (log .exit))) ≡ mergeElement depth (fixedIn (now (deck .entry)) (now (schema .entry)) (now (elements .entry))) (f .0) (setIs files) (a .0) (b .0) (stateIn (now (model .entry)) (now (log .entry))) ⌝ }
     ensures { λ _. ⌜ KeepsState (now (model .entry)) (now (log .entry)) (now (model .exit)) (now (log .exit)) ⌝ }
 {
-    if depth == 0 {
-        return Outcome::Refused(Refusal::Unmergeable(a));
-    }
-    if level_room(model, a, b) <= work.len() {
-        return merge_level(
-            deck,
-            schema,
-            elements,
-            model,
-            log,
-            work,
-            f,
-            version,
-            files,
-            a,
-            b,
-            depth - 1,
-        );
-    }
-    merge_apart(
-        deck,
-        schema,
-        elements,
-        model,
-        log,
-        f,
-        version,
-        files,
-        a,
-        b,
-        depth - 1,
-    )
-}
-
-// A level whose plan has no room in the scratch slice.
-fn merge_apart(
-    deck: &[u8],
-    schema: &[u64],
-    elements: &[u64],
-    model: &mut [u64],
-    log: &mut [u64],
-    f: FileNumber,
-    version: u64,
-    files: FileSet,
-    a: Element,
-    b: Element,
-    depth: usize,
-) -> Outcome
-    requires { ⌜ GoodFixed (now deck) (now schema) (now elements) ⌝ }
-    requires { ⌜ StateOver (now elements) (now model) (now log) ⌝ }
-    requires { ⌜ f .0 < fileLimit ⌝ }
-    requires { ⌜ version ≡ versionOf (schemaOf (now schema)) (f .0) ⌝ }
-    requires { ⌜ a .0 < length (elementsOf (now elements) .names) ⌝ }
-    requires { ⌜ b .0 < length (elementsOf (now elements) .names) ⌝ }
-    requires { ⌜ 2 * length (listOf (modelOf (now model)) (a .0)) + 5 * length (listOf (modelOf (now model)) (b .0)) ≤ 7 * itemLimit ⌝ }
-    ensures { λ r. ⌜ outcomeIs r (stateIn (now (model .exit)) (now (log .exit))) ≡ mergeElement (suc depth) (fixedIn (now (deck .entry)) (now (schema .entry)) (now (elements .entry))) (f .0) (setIs files) (a .0) (b .0) (stateIn (now (model .entry)) (now (log .entry))) ⌝ }
-    ensures { λ _. ⌜ KeepsState (now (model .entry)) (now (log .entry)) (now (model .exit)) (now (log .exit)) ⌝ }
-{
     let mut work = [0u16; WORK_SIZE];
-    merge_level(
+    merge_element(
         deck,
         schema,
         elements,
@@ -269,8 +209,8 @@ fn merge_apart(
     )
 }
 
-// The plan of the level, its restrictions and imports, and its pairs.
-fn merge_level(
+// Level: b is merged into a, by its plan: restrictions and imports, then pairs. At depth 0, where no listed element is, refusal 6.
+fn merge_element(
     deck: &[u8],
     schema: &[u64],
     elements: &[u64],
@@ -291,9 +231,12 @@ fn merge_level(
     requires { ⌜ a .0 < length (elementsOf (now elements) .names) ⌝ }
     requires { ⌜ b .0 < length (elementsOf (now elements) .names) ⌝ }
     requires { ⌜ 2 * length (listOf (modelOf (now model)) (a .0)) + 5 * length (listOf (modelOf (now model)) (b .0)) ≤ length (now work) ⌝ }
-    ensures { λ r. ⌜ outcomeIs r (stateIn (now (model .exit)) (now (log .exit))) ≡ mergeElement (suc depth) (fixedIn (now (deck .entry)) (now (schema .entry)) (now (elements .entry))) (f .0) (setIs files) (a .0) (b .0) (stateIn (now (model .entry)) (now (log .entry))) ⌝ }
+    ensures { λ r. ⌜ outcomeIs r (stateIn (now (model .exit)) (now (log .exit))) ≡ mergeElement depth (fixedIn (now (deck .entry)) (now (schema .entry)) (now (elements .entry))) (f .0) (setIs files) (a .0) (b .0) (stateIn (now (model .entry)) (now (log .entry))) ⌝ }
     ensures { λ _. ⌜ KeepsState (now (model .entry)) (now (log .entry)) (now (model .exit)) (now (log .exit)) ⌝ }
 {
+    if depth == 0 {
+        return Outcome::Refused(Refusal::Unmergeable(a));
+    }
     let v = least_version(schema, files, version);
     let planned = plan_level(deck, schema, elements, model, v, a, b, work);
     match planned {
@@ -325,7 +268,7 @@ fn merge_level(
                     v,
                     files,
                     a,
-                    depth,
+                    depth - 1,
                 );
             }
             r
@@ -335,7 +278,7 @@ fn merge_level(
     }
 }
 
-// Pairs, in order: the level of each, and what becomes of it. Levels below have the scratch slice behind the rows of A.
+// Pairs, in order. Levels below have the scratch slice behind the rows of A.
 fn merge_sub_elements(
     deck: &[u8],
     schema: &[u64],
@@ -372,17 +315,7 @@ fn merge_sub_elements(
         }
         let a = Element(work[row] as usize);
         let b = Element((mate - 1) as usize);
-        if is_bare(model, a, b, depth) {
-            let r = extend_pair(model, log, f, a);
-            if let Outcome::Done = r {
-                i += 1;
-                continue;
-            }
-            return r;
-        }
-        let own = files_of_pair(model, files, a);
-        let mark = log_length(log);
-        let below = merge_element(
+        let r = merge_pair(
             deck,
             schema,
             elements,
@@ -391,12 +324,74 @@ fn merge_sub_elements(
             &mut work[rows..],
             f,
             version,
+            v,
+            files,
+            p,
+            a,
+            b,
+            depth,
+        );
+        if let Outcome::Done = r {
+            i += 1;
+        } else {
+            return r;
+        }
+    }
+    Outcome::Done
+}
+
+// One pair: its level, and what becomes of it. The usual answer, Done, is tested for before it is copied for `settle`.
+fn merge_pair(
+    deck: &[u8],
+    schema: &[u64],
+    elements: &[u64],
+    model: &mut [u64],
+    log: &mut [u64],
+    work: &mut [u16],
+    f: FileNumber,
+    version: u64,
+    v: u64,
+    files: FileSet,
+    p: Element,
+    a: Element,
+    b: Element,
+    depth: usize,
+) -> Outcome
+    requires { ⌜ GoodFixed (now deck) (now schema) (now elements) ⌝ }
+    requires { ⌜ StateOver (now elements) (now model) (now log) ⌝ }
+    requires { ⌜ f .0 < fileLimit ⌝ }
+    requires { ⌜ version ≡ versionOf (schemaOf (now schema)) (f .0) ⌝ }
+    requires { ⌜ v < versionLimit ⌝ }
+    requires { ⌜ p .0 < length (elementsOf (now elements) .names) ⌝ }
+    requires { ⌜ a .0 < length (elementsOf (now elements) .names) ⌝ }
+    requires { ⌜ b .0 < length (elementsOf (now elements) .names) ⌝ }
+    ensures { λ r. ⌜ outcomeIs r (stateIn (now (model .exit)) (now (log .exit))) ≡ mergePair (mergeElement depth (fixedIn (now (deck .entry)) (now (schema .entry)) (now (elements .entry))) (f .0)) (fixedIn (now (deck .entry)) (now (schema .entry)) (now (elements .entry))) (f .0) v (p .0) (setIs files) (record { a = a .0; b = b .0 }) (stateIn (now (model .entry)) (now (log .entry))) ⌝ }
+    ensures { λ _. ⌜ KeepsState (now (model .entry)) (now (log .entry)) (now (model .exit)) (now (log .exit)) ⌝ }
+{
+    if is_bare(model, a, b, depth) {
+        return extend_pair(model, log, f, a);
+    }
+    let own = files_of_pair(model, files, a);
+    let mark = log_length(log);
+    if level_room(model, a, b) <= work.len() {
+        let below = merge_element(
+            deck,
+            schema,
+            elements,
+            model,
+            log,
+            work,
+            f,
+            version,
             own,
             a,
             b,
             depth,
         );
-        let r = settle(
+        if let Outcome::Done = below {
+            return extend_pair(model, log, f, a);
+        }
+        return settle(
             deck,
             schema,
             elements,
@@ -411,11 +406,33 @@ fn merge_sub_elements(
             mark,
             below,
         );
-        if let Outcome::Done = r {
-            i += 1;
-        } else {
-            return r;
-        }
     }
-    Outcome::Done
+    let below = merge_apart(
+        deck,
+        schema,
+        elements,
+        model,
+        log,
+        f,
+        version,
+        own,
+        a,
+        b,
+        depth,
+    );
+    settle(
+        deck,
+        schema,
+        elements,
+        model,
+        log,
+        f,
+        v,
+        p,
+        a,
+        b,
+        own,
+        mark,
+        below,
+    )
 }

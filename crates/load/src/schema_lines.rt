@@ -14,7 +14,9 @@ use deck::lines::FileCells;
 use deck::lines::GroupCells;
 use deck::lines::RowCells;
 use deck::lines::TypeCells;
+use schema_calls::calls::has_group;
 use schema_calls::rules::group_rule;
+use schema_calls::rules::rows_meet;
 use schema_calls::rules::sub_element_rule;
 use tables::limits::GROUP_LIMIT;
 use tables::limits::ROW_LIMIT;
@@ -90,7 +92,8 @@ pub fn load_g(schema: &mut [u64], p: Progress, c: GroupCells) -> Step
     if GROUP_LIMIT <= n {
         return refuse(p, LIMIT);
     }
-    if !group_rule(schema, n, c.ty, c.path) {
+    let repeated = has_group(schema, c.ty, c.path, n);
+    if !group_rule(schema, n, c.ty, c.path, repeated) {
         return refuse(p, SCHEMA_RULE);
     }
     add_group(schema, c.ty, c.path, c.mode);
@@ -111,7 +114,8 @@ pub fn load_s(schema: &mut [u64], p: Progress, c: RowCells) -> Step
     if ROW_LIMIT <= n {
         return refuse(p, LIMIT);
     }
-    if !sub_element_rule(schema, n, c) {
+    let repeated = rows_meet(schema, n, c);
+    if !sub_element_rule(schema, n, c, repeated) {
         return refuse(p, SCHEMA_RULE);
     }
     add_row(schema, c.ty, c.path, c.name, c.child, c.mult, c.mask);

@@ -1,8 +1,7 @@
 // The waiting tree of a file, and its merge into the model.
 use changes::log::extend;
 use changes::refusals::Outcome;
-use level::level::WORK_SIZE;
-use level::level::merge_element;
+use level::level::merge_apart;
 use schema_calls::files::version_of;
 use tables::elements::tree_count;
 use tables::elements::tree_file;
@@ -91,16 +90,14 @@ pub fn merge_tree(
     ensures { λ r. ⌜ outcomeIs r (stateIn (now (model .exit)) (now (log .exit))) ≡ mergeTree (fixedIn (now (deck .entry)) (now (schema .entry)) (now (elements .entry))) (record { file = f .0; root = b .0 }) (stateIn (now (model .entry)) (now (log .entry))) ⌝ }
     ensures { λ _. ⌜ KeepsState (now (model .entry)) (now (log .entry)) (now (model .exit)) (now (log .exit)) ⌝ }
 {
-    let mut work = [0u16; WORK_SIZE];
     let version = version_of(schema, f);
     let files = set_of(model, ROOT);
-    let r = merge_element(
+    let r = merge_apart(
         deck,
         schema,
         elements,
         model,
         log,
-        &mut work,
         f,
         version,
         files,

@@ -1,5 +1,5 @@
 -- What the answers of the schema calls stand for. Assumes nothing.
-use mathlib.Core.Bool.{Bool, true, false, _&&_}
+use mathlib.Core.Bool.{Bool, true, false, _&&_, _||_}
 use mathlib.Core.List.{List}
 use mathlib.Core.Option.{Option, none, some}
 use mathlib.Core.Path.{_≡_}
@@ -8,7 +8,7 @@ use lib.Dec.{eqb}
 use lib.ListN.{length, getD, take}
 use Rattle.tables.specs.Cells.{Each}
 use Rattle.tables.specs.FileSets.{holds}
-use Rattle.tables.specs.Lists.{allOf}
+use Rattle.tables.specs.Lists.{anyOf, allOf}
 use Rattle.tables.specs.Paths.{samePath}
 use Rattle.tables.specs.Records.{Name, TypeNumber, FileNumber, FileSet, Version, Mask, SchemaPath, Group, SubElement, File, Schema}
 use Rattle.deck.specs.Schema.{properBeginnings, hasGroup, meets}
@@ -58,6 +58,10 @@ groupsAbove sc i = record { types = sc .types; groups = take i (sc .groups); sub
 -- the schema with the first i of its S rows alone
 unfoldable pub rowsAbove : Schema → ℕ → Schema
 rowsAbove sc i = record { types = sc .types; groups = sc .groups; subElements = take i (sc .subElements); files = sc .files }
+
+-- an S row of the schema has the row's type, and its name or its path
+abbrev pub hasEqualRow : Schema → SubElement → Bool
+hasEqualRow sc r = anyOf (nameMatches (r .type) (r .name)) (sc .subElements) || anyOf (pathMatches (r .type) (r .path)) (sc .subElements)
 
 -- ---- what the rules give of the rows above
 

@@ -35,6 +35,12 @@ matchesAt sc (Name t n) i = nameMatches (t .0) (n .0) (getD (sc .subElements) i 
 matchesAt sc (Path t p) i = pathMatches (t .0) (partsOf p) (getD (sc .subElements) i noSubElement)
 matchesAt sc (Group t p) i = groupMatches (t .0) (partsOf p) (getD (sc .groups) i noGroup)
 
+-- the row or group at place k has the type and, by the index, the name or the path of the one at place i
+abbrev pub alikeAt : Schema → Index → ℕ → ℕ → Bool
+alikeAt sc Groups i k = let g = getD (sc .groups) i noGroup in groupMatches (g .type) (g .path) (getD (sc .groups) k noGroup)
+alikeAt sc Names i k = let r = getD (sc .subElements) i noSubElement in nameMatches (r .type) (r .name) (getD (sc .subElements) k noSubElement)
+alikeAt sc Paths i k = let r = getD (sc .subElements) i noSubElement in pathMatches (r .type) (r .path) (getD (sc .subElements) k noSubElement)
+
 -- ---- places that pass a test
 
 -- the first of two answers that found something

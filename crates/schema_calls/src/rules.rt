@@ -1,19 +1,20 @@
 // Schema rules: what a G row and an S row must keep to, by the rows above it.
-ghost use mathlib.Core.Bool.{_||_};
 ghost use mathlib.Core.Path.{_≡_};
 ghost use Prim.Native.Nat.{_<_, _≤_};
-ghost use lib.ListN.{length, take};
-ghost use Rattle.tables.specs.Lists.{anyOf, allOf};
+ghost use lib.ListN.{length, getD};
+ghost use Rattle.tables.specs.Lists.{allOf};
 ghost use Rattle.tables.specs.Paths.{partsOf};
 ghost use Rattle.tables.specs.Records.{Mode};
-ghost use Rattle.tables.specs.SchemaTable.{schemaOf, GoodSchema};
+ghost use Rattle.tables.specs.SchemaTable.{schemaOf, GoodSchema, noSubElement};
 ghost use Rattle.deck.specs.Answers.{rowIs};
 ghost use Rattle.deck.specs.Schema.{properBeginnings, declaredType, hasGroup, pathValid, groupRule, subElementRule};
-ghost use Rattle.schema_calls.specs.Calls.{nameMatches, pathMatches, groupsAbove, rowsAbove, PathsClosed};
+ghost use Rattle.schema_calls.specs.Calls.{groupsAbove, rowsAbove, hasEqualRow, PathsClosed};
 use crate::calls::has_group;
 use crate::search::Sought;
 use crate::search::is_found;
+use crate::search::repeats;
 use deck::lines::RowCells;
+use tables::index::Index;
 use tables::numbers::TypeNumber;
 use tables::path::Path;
 use tables::schema::group_count;
@@ -73,22 +74,21 @@ pub fn path_valid(schema: &[u64], t: TypeNumber, p: Path, above: usize) -> bool
     beginnings_declared(schema, t, p, above)
 }
 
-pub fn group_rule(schema: &[u64], above: usize, t: TypeNumber, p: Path) -> bool
+// Whether a group above has the type and the path is for the caller to find: by their bucket, or by the link of a group in the table.
+pub fn group_rule(schema: &[u64], above: usize, t: TypeNumber, p: Path, repeated: bool) -> bool
     requires { ⌜ GoodSchema (now schema) ⌝ }
     requires { ⌜ above ≤ length (schemaOf (now schema) .groups) ⌝ }
+    requires { ⌜ repeated ≡ hasGroup (groupsAbove (schemaOf (now schema)) above) (t .0) (partsOf p) ⌝ }
     ensures { λ r. ⌜ ((mode : Mode) → r ≡ groupRule (groupsAbove (schemaOf (now (schema .entry))) above) (record { type = t .0; path = partsOf p; mode = mode })) ⌝ }
 {
-    if !path_valid(schema, t, p, above) {
-        return false;
-    }
-    !has_group(schema, t, p, above)
+    path_valid(schema, t, p, above) & !repeated
 }
 
 // A row above this place is of the type and has the row's name or path.
-fn rows_meet(schema: &[u64], above: usize, c: RowCells) -> bool
+pub fn rows_meet(schema: &[u64], above: usize, c: RowCells) -> bool
     requires { ⌜ GoodSchema (now schema) ⌝ }
     requires { ⌜ above ≤ length (schemaOf (now schema) .subElements) ⌝ }
-    ensures { λ r. ⌜ r ≡ anyOf (nameMatches (c .ty .0) (c .name .0)) (take above (schemaOf (now (schema .entry)) .subElements)) || anyOf (pathMatches (c .ty .0) (partsOf (c .path))) (take above (schemaOf (now (schema .entry)) .subElements)) ⌝ }
+    ensures { λ r. ⌜ r ≡ hasEqualRow (rowsAbove (schemaOf (now (schema .entry))) above) (rowIs c) ⌝ }
 {
     let t = c.ty;
     let name = c.name;
@@ -99,12 +99,25 @@ fn rows_meet(schema: &[u64], above: usize, c: RowCells) -> bool
     is_found(schema, Sought::Path(t, path), above)
 }
 
-// No path above begins or is begun by the row's unless both are equal, or the row's is a group's: so equal ones are looked for.
-pub fn sub_element_rule(schema: &[u64], above: usize, c: RowCells) -> bool
+// The same of row i of the table, by its own links.
+pub fn row_repeats(schema: &[u64], i: usize) -> bool
+    requires { ⌜ GoodSchema (now schema) ⌝ }
+    requires { ⌜ i < length (schemaOf (now schema) .subElements) ⌝ }
+    ensures { λ r. ⌜ r ≡ hasEqualRow (rowsAbove (schemaOf (now (schema .entry))) i) (getD (schemaOf (now (schema .entry)) .subElements) i noSubElement) ⌝ }
+{
+    if repeats(schema, Index::Names, i) {
+        return true;
+    }
+    repeats(schema, Index::Paths, i)
+}
+
+// No path above begins or is begun by the row's unless both are equal, or the row's is a group's: so the caller looks for equal ones.
+pub fn sub_element_rule(schema: &[u64], above: usize, c: RowCells, repeated: bool) -> bool
     requires { ⌜ GoodSchema (now schema) ⌝ }
     requires { ⌜ above ≤ length (schemaOf (now schema) .subElements) ⌝ }
     requires { ⌜ PathsClosed (rowsAbove (schemaOf (now schema)) above) ⌝ }
     requires { ⌜ 0 < length (partsOf (c .path)) ⌝ }
+    requires { ⌜ repeated ≡ hasEqualRow (rowsAbove (schemaOf (now schema)) above) (rowIs c) ⌝ }
     ensures { λ r. ⌜ r ≡ subElementRule (rowsAbove (schemaOf (now (schema .entry))) above) (rowIs c) ⌝ }
 {
     let groups = group_count(schema);
@@ -114,7 +127,7 @@ pub fn sub_element_rule(schema: &[u64], above: usize, c: RowCells) -> bool
     if !type_declared(schema, c.child) {
         return false;
     }
-    if rows_meet(schema, above, c) {
+    if repeated {
         return false;
     }
     !has_group(schema, c.ty, c.path, groups)

@@ -6,7 +6,7 @@ ghost use Rattle.tables.specs.Index.{buckets};
 ghost use Rattle.tables.specs.Paths.{partsOf};
 ghost use Rattle.tables.specs.SchemaTable.{schemaOf, GoodSchema, placesIn, noGroup, noSubElement};
 ghost use Rattle.schema_calls.specs.Calls.{rowMatches, nameMatches, pathMatches, groupMatches};
-ghost use Rattle.schema_calls.specs.Search.{indexFor, bucketFor, matchesAt, firstBelow, anyBelow};
+ghost use Rattle.schema_calls.specs.Search.{indexFor, bucketFor, matchesAt, alikeAt, firstBelow, anyBelow};
 use crate::calls::Found;
 use tables::index::Index;
 use tables::index::bucket;
@@ -157,4 +157,35 @@ pub fn is_found(schema: &[u64], sought: Sought, above: usize) -> bool
         Found::At(_) => true,
         Found::Missing => false,
     }
+}
+
+// Places i and k have the same type and, by the index, the same name or path.
+fn alike(schema: &[u64], x: Index, i: usize, k: usize) -> bool
+    requires { ⌜ GoodSchema (now schema) ⌝ }
+    requires { ⌜ i < placesIn (schemaOf (now schema)) x ⌝ }
+    requires { ⌜ k < placesIn (schemaOf (now schema)) x ⌝ }
+    ensures { λ r. ⌜ r ≡ alikeAt (schemaOf (now (schema .entry))) x i k ⌝ }
+{
+    match x {
+        Index::Groups => group_matches(schema, k, group_type(schema, i), group_path(schema, i)),
+        Index::Names => name_matches(schema, k, row_type(schema, i), row_name(schema, i)),
+        Index::Paths => path_matches(schema, k, row_type(schema, i), row_path(schema, i)),
+    }
+}
+
+// What stands at place i stands above it too: its own link leads to all that can be alike.
+pub fn repeats(schema: &[u64], x: Index, i: usize) -> bool
+    requires { ⌜ GoodSchema (now schema) ⌝ }
+    requires { ⌜ i < placesIn (schemaOf (now schema)) x ⌝ }
+    ensures { λ r. ⌜ r ≡ anyBelow (alikeAt (schemaOf (now (schema .entry))) x i) i ⌝ }
+{
+    let mut next = latest_above(schema, x, i);
+    while next != 0 {
+        let k = next - 1;
+        if alike(schema, x, i, k) {
+            return true;
+        }
+        next = latest_above(schema, x, k);
+    }
+    false
 }

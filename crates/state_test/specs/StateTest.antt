@@ -4,10 +4,11 @@ use mathlib.Core.Bool.{Bool, true, false, not, _&&_}
 use mathlib.Core.List.{List, [], _∷_}
 use mathlib.Core.Option.{none, some}
 use mathlib.Core.Path.{_≡_}
-use Prim.Native.Nat.{ℕ, suc, _<_}
+use Prim.Native.Nat.{ℕ, suc, _≤_, _<_}
 use lib.Dec.{eqb}
 use lib.ListN.{length, getD}
 use Rattle.tables.specs.FileSets.{noSet, partOf}
+use Rattle.tables.specs.Limits.{depthLimit}
 use Rattle.tables.specs.Lists.{anyOf, allOf}
 use Rattle.tables.specs.Records.{Element, FileSet, Group, SubElement, Schema, Tree, Item, child, text, Entry, import, restriction, extension, Model, Fixed, State, root, nameOf, typeOf, depthOf, setOf, addGroup, addSubElement}
 use Rattle.tables.specs.ElementsTable.{elementsOf}
@@ -71,16 +72,17 @@ treeFilesDistinct (t ∷ ts) = elim (anyOf (λ (u : Tree). eqb (u .file) (t .fil
 unfoldable pub rootValid : Fixed → Element → Bool
 rootValid x e = eqb (depthOf x e) 0 && eqb (typeOf x e) 0
 
--- a listed element of a type that no row there gives its name
-unfoldable pub itemTyped : Fixed → Element → Item → Bool
-itemTyped x p (child e) =
-    elim (rowOfName (x .schema) (typeOf x p) (nameOf x e)) [ none ↦ false | some r ↦ eqb (r .childType) (typeOf x e) ]
-itemTyped x p (text t) = true
+-- a listed element not one deeper than its list's owner, or of a type that no row there gives its name
+unfoldable pub itemValid : Fixed → Element → Item → Bool
+itemValid x p (child e) =
+    eqb (depthOf x e) (suc (depthOf x p))
+    && elim (rowOfName (x .schema) (typeOf x p) (nameOf x e)) [ none ↦ false | some r ↦ eqb (r .childType) (typeOf x e) ]
+itemValid x p (text t) = true
 
 -- the lists of the owners from p on
-unfoldable pub listsTyped : Fixed → Element → List (List Item) → Bool
-listsTyped x p [] = true
-listsTyped x p (l ∷ ls) = elim (allOf (itemTyped x p) l) [ true ↦ listsTyped x (suc p) ls | false ↦ false ]
+unfoldable pub listsValid : Fixed → Element → List (List Item) → Bool
+listsValid x p [] = true
+listsValid x p (l ∷ ls) = elim (allOf (itemValid x p) l) [ true ↦ listsValid x (suc p) ls | false ↦ false ]
 
 -- ---- the whole
 
@@ -94,7 +96,7 @@ rootsValid x = rootValid x root && allOf (λ (t : Tree). rootValid x (t .root)) 
 
 unfoldable pub stateValid : Fixed → State → Bool
 stateValid x s =
-    schemaValid (x .schema) && filesDeclared x s && rootsValid x && listsTyped x 0 (s .model .lists)
+    schemaValid (x .schema) && filesDeclared x s && rootsValid x && listsValid x 0 (s .model .lists)
 
 abbrev pub fixedIn : List ℕ → List ℕ → List ℕ → Fixed
 fixedIn deck schema elements = record { deck = deck; schema = schemaOf schema; elements = elementsOf elements }
@@ -107,11 +109,15 @@ unfoldable pub lentTablesPass : List ℕ → List ℕ → List ℕ → List ℕ 
 lentTablesPass deck schema elements model log =
     tablesPass (length deck) schema elements model log && stateValid (fixedIn deck schema elements) (stateIn model log)
 
--- ---- what the schema rules are asked of
+-- ---- what the rules are asked of
 
 -- an S row's path is not empty, which a table's own test asks
 abbrev pub PathFilled : SubElement → Type 0
 PathFilled r = 0 < length (r .path)
+
+-- a depth is within its limit, which a table's own test asks too
+abbrev pub Shallow : ℕ → Type 0
+Shallow d = d ≤ depthLimit
 
 -- the row at a place, if there is one, is what its name has in its type
 abbrev pub FoundRow : Schema → ℕ → Type 0

@@ -41,14 +41,13 @@ fn sets_declared(model: &[u64], d: FileSet) -> bool
     ensures { λ r. ⌜ ((sc : Schema) → setIs d ≡ declaredFiles sc → r ≡ allOf (setDeclared sc) (modelOf (now (model .entry)) .sets)) ⌝ }
 {
     let n = count(model);
+    let mut all = true;
     let mut e = 0;
     while e < n {
-        if !set_of(model, Element(e)).part_of(d) {
-            return false;
-        }
+        all = all & set_of(model, Element(e)).part_of(d);
         e += 1;
     }
-    true
+    all
 }
 
 // The entry's old set, if it has one, is a part of d.

@@ -1,7 +1,10 @@
 // Each G and S row meets its rule, by the rows above it.
 use deck::lines::RowCells;
 use schema_calls::rules::group_rule;
+use schema_calls::rules::row_repeats;
 use schema_calls::rules::sub_element_rule;
+use schema_calls::search::repeats;
+use tables::index::Index;
 use tables::schema::group_count;
 use tables::schema::group_path;
 use tables::schema::group_type;
@@ -28,7 +31,10 @@ fn groups_valid(schema: &[u64]) -> bool
     let n = group_count(schema);
     let mut i = 0;
     while i < n {
-        if !group_rule(schema, i, group_type(schema, i), group_path(schema, i)) {
+        let t = group_type(schema, i);
+        let p = group_path(schema, i);
+        let repeated = repeats(schema, Index::Groups, i);
+        if !group_rule(schema, i, t, p, repeated) {
             return false;
         }
         i += 1;
@@ -61,7 +67,8 @@ fn rows_valid(schema: &[u64]) -> bool
     let n = row_count(schema);
     let mut i = 0;
     while i < n {
-        if !sub_element_rule(schema, i, row_cells(schema, i)) {
+        let repeated = row_repeats(schema, i);
+        if !sub_element_rule(schema, i, row_cells(schema, i), repeated) {
             return false;
         }
         i += 1;

@@ -1,6 +1,6 @@
 // Refusal 0 of every call but load.
 use crate::files::files_declared;
-use crate::roots::lists_typed;
+use crate::roots::lists_valid;
 use crate::roots::roots_valid;
 use crate::schema::schema_valid;
 use table_test::test::tables_pass;
@@ -15,7 +15,7 @@ ghost use Rattle.tables.specs.ElementsTable.{elementsOf, GoodElements};
 ghost use Rattle.tables.specs.LogTable.{GoodLog};
 ghost use Rattle.tables.specs.ModelTable.{countOf, modelOf, GoodModel};
 ghost use Rattle.tables.specs.SchemaTable.{schemaOf, GoodSchema};
-ghost use Rattle.state_test.specs.StateTest.{PathFilled, stateValid, lentTablesPass, fixedIn, stateIn};
+ghost use Rattle.state_test.specs.StateTest.{PathFilled, Shallow, stateValid, lentTablesPass, fixedIn, stateIn};
 
 // The state held by tables that pass their own test.
 fn state_valid(schema: &[u64], elements: &[u64], model: &[u64], log: &[u64]) -> bool
@@ -23,6 +23,7 @@ fn state_valid(schema: &[u64], elements: &[u64], model: &[u64], log: &[u64]) -> 
     requires { ⌜ Each PathFilled (schemaOf (now schema) .subElements) ⌝ }
     requires { ⌜ Each (λ (d : File). d .file < fileLimit) (schemaOf (now schema) .files) ⌝ }
     requires { ⌜ GoodElements (now elements) ⌝ }
+    requires { ⌜ Each Shallow (elementsOf (now elements) .depths) ⌝ }
     requires { ⌜ Each (λ (t : Tree). t .file < fileLimit) (elementsOf (now elements) .trees) ⌝ }
     requires { ⌜ GoodModel (now model) ⌝ }
     requires { ⌜ GoodLog (now log) ⌝ }
@@ -38,7 +39,7 @@ fn state_valid(schema: &[u64], elements: &[u64], model: &[u64], log: &[u64]) -> 
     if !roots_valid(elements) {
         return false;
     }
-    lists_typed(schema, elements, model)
+    lists_valid(schema, elements, model)
 }
 
 // No refusal 0: the tables pass their own test, and the state that they hold is valid.

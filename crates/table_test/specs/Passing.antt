@@ -2,11 +2,11 @@
 use mathlib.Core.Bool.{true}
 use mathlib.Core.List.{List}
 use mathlib.Core.Path.{_≡_}
-use Prim.Native.Nat.{ℕ, _+_, _≤_, _<_}
-use lib.ListN.{length, getD}
+use Prim.Native.Nat.{ℕ, _≤_, _<_}
+use lib.ListN.{length}
 use Rattle.tables.specs.Cells.{Each}
 use Rattle.tables.specs.Limits.{depthLimit, nameLimit, partLimit}
-use Rattle.tables.specs.Records.{SchemaPath, characters, Group, SubElement, Schema, Elements, Item, child, text, Model, Log, listOf}
+use Rattle.tables.specs.Records.{SchemaPath, characters, Group, SubElement, Schema, Elements, Item, child, text, Model, Log}
 use Rattle.tables.specs.SchemaTable.{SizedSchema}
 use Rattle.tables.specs.ElementsTable.{SizedElements}
 use Rattle.tables.specs.ModelTable.{flat, SizedModel}
@@ -58,11 +58,6 @@ pub record ModelIn (texts : ℕ) (m : Model) : Type 0 where
   pub sized : SizedModel m
   pub textsIn : Each (ItemTextIn texts) (flat (m .lists))
   pub once : Each (λ (l : List Item). onceIn l ≡ true) (m .lists)
-
--- each listed element is one deeper than its owner
-abbrev pub OneDeeper : Elements → Model → Type 0
-OneDeeper es m =
-    (e i x : ℕ) → i < length (listOf m e) → getD (listOf m e) i (child 0) ≡ child x → getD (es .depths) x 0 ≡ getD (es .depths) e 0 + 1
 
 -- ---- log
 

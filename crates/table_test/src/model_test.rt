@@ -16,21 +16,20 @@ ghost use Rattle.tables.specs.Lists.{allOf};
 ghost use Rattle.tables.specs.ModelTable.{cellItem, modelOf, GoodModel};
 ghost use Rattle.table_test.specs.ModelTest.{rising, cellInRange, onceIn, modelShape, modelUnused, modelUsed, modelOnce, isModelTable, Shaped};
 
-// None is less than the one before it, and the last is within the items.
+// None is less than the one before it, and the last is within the items. No way out before the end, as in `all_zero`.
 fn rises(s: &[u64]) -> bool
     ensures { λ r. ⌜ r ≡ rising 0 (now (s .entry)) ⌝ }
 {
+    let mut all = true;
     let mut last: u64 = 0;
     let mut j = 0;
     while j < s.len() {
         let x = s[j];
-        if x < last {
-            return false;
-        }
+        all = all & (last <= x);
         last = x;
         j += 1;
     }
-    last <= ITEM_LIMIT as u64
+    all & (last <= ITEM_LIMIT as u64)
 }
 
 fn cell_in_range(c: u64, n: u64, texts: u64) -> bool
@@ -45,14 +44,13 @@ fn cell_in_range(c: u64, n: u64, texts: u64) -> bool
 fn cells_in_range(s: &[u64], n: u64, texts: u64) -> bool
     ensures { λ r. ⌜ r ≡ allOf (cellInRange n texts) (now (s .entry)) ⌝ }
 {
+    let mut all = true;
     let mut j = 0;
     while j < s.len() {
-        if !cell_in_range(s[j], n, texts) {
-            return false;
-        }
+        all = all & cell_in_range(s[j], n, texts);
         j += 1;
     }
-    true
+    all
 }
 
 // No element twice in a list, from the end to the front: the elements passed are marked with this list's number.

@@ -1,10 +1,9 @@
-// Tests of every cell of a part of a table.
+// Tests of every cell of a part of a table. No way out at the first cell that fails: so the compiler takes several cells at a time.
 
 ghost use mathlib.Core.Path.{_≡_};
 ghost use Rattle.tables.specs.Lists.{allOf};
 ghost use Rattle.table_test.specs.ModelTest.{isZero, atMost};
 
-// No way out at the first cell that is not zero: so the compiler takes several cells at a time.
 pub fn all_zero(s: &[u64]) -> bool
     ensures { λ r. ⌜ r ≡ allOf isZero (now (s .entry)) ⌝ }
 {
@@ -20,12 +19,11 @@ pub fn all_zero(s: &[u64]) -> bool
 pub fn all_at_most(s: &[u64], n: u64) -> bool
     ensures { λ r. ⌜ r ≡ allOf (atMost n) (now (s .entry)) ⌝ }
 {
+    let mut all = true;
     let mut j = 0;
     while j < s.len() {
-        if n < s[j] {
-            return false;
-        }
+        all = all & (s[j] <= n);
         j += 1;
     }
-    true
+    all
 }

@@ -57,19 +57,18 @@ pub fn same_float(x: f64, y: f64) -> bool
     x == y
 }
 
-// The n bytes from place a on are those from place b on.
+// The n bytes from place a on are those from place b on. No way out at the first that differs: so the compiler takes several at a time.
 fn same_bytes(deck: &[u8], a: usize, b: usize, n: usize) -> bool
     requires { ⌜ (a + n ≤ length (now deck)) × (b + n ≤ length (now deck)) ⌝ }
     ensures { λ r. ⌜ r ≡ sameList (take n (drop a (now (deck .entry)))) (take n (drop b (now (deck .entry)))) ⌝ }
 {
+    let mut same = true;
     let mut i = 0;
     while i < n {
-        if deck[a + i] != deck[b + i] {
-            return false;
-        }
+        same = same & (deck[a + i] == deck[b + i]);
         i += 1;
     }
-    true
+    same
 }
 
 // The strings are equal, byte by byte.

@@ -69,12 +69,6 @@ module _ {A : Type 0} (P : A → Type 0) where
   flat-each [] h = tt
   flat-each (l ∷ ls) h = each-append P l (flat ls) (in-each l (h 0)) (flat-each ls (λ p. h (suc p)))
 
--- the entry at a place is in the list
-pub at-in : {A : Type 0} (l : List A) (d : A) (i : ℕ) → i < length l → In (getD l i d) l
-at-in [] d i h = absurd (not-suc-le-zero h)
-at-in (x ∷ l) d zero h = List·Memᴰ·head refl
-at-in (x ∷ l) d (suc i) h = List·Memᴰ·tail (at-in l d i (le-of-suc-le-suc h))
-
 -- ---- entries of another list
 
 -- every entry of the first is in the second

@@ -12,7 +12,7 @@ use Rattle.state_test.specs.StateTest.{lentTablesPass}
 use Rattle.merge_rules.specs.Sound.{Sound, Passes}
 use Rattle.merge_rules.proofs.Laws.Loaded.{FixedInRange}
 use Rattle.merge_rules.proofs.Laws.PassingState.{state-valid}
-use Rattle.merge_rules.proofs.Laws.PassingTables.{schema-in, elements-in, model-in, log-in, deeper}
+use Rattle.merge_rules.proofs.Laws.PassingTables.{schema-in, elements-in, model-in, log-in}
 
 pub sound-passes : (deck : List ℕ) (x : Fixed) (s : State) → FixedInRange deck x → Sound x s → Passes deck x s
 unfolding lentTablesPass
@@ -22,7 +22,7 @@ sound-passes deck x s r h =
     let model = model-in deck x r (h .static) s (h .kept) in
     rw (
       tables-pass (length deck) (x .schema) (x .elements) (s .model) (s .log) schema elements model
-          (log-in deck x r (h .static) s (h .kept)) (h .kept .parents) (deeper deck x r (h .static) s (h .kept)),
+          (log-in deck x r (h .static) s (h .kept)) (h .kept .parents),
       schema-back (x .schema) (schema .sized),
       elements-back (x .elements) (elements .sized),
       decode-encode (s .model) (model .sized),

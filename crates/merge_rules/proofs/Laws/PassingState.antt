@@ -9,29 +9,31 @@ use borrow.Author.Tests.{eq-eqb, ne-eqb}
 use lib.ListN.{getD}
 use Rattle.tables.specs.FileSets.{noSet, partOf}
 use Rattle.tables.specs.Lists.{allOf}
-use Rattle.tables.specs.Records.{Element, FileSet, Item, child, text, Entry, import, restriction, extension, Tree, Fixed, State, root, typeOf, setOf}
+use Rattle.tables.specs.Records.{Element, FileSet, Item, child, text, Entry, import, restriction, extension, Tree, Fixed, State, root, typeOf, depthOf, setOf}
 use Rattle.tables.proofs.Laws.Scans.{each-passes}
 use Rattle.deck.specs.Schema.{declaredFiles}
-use Rattle.state_test.specs.StateTest.{rootSetStored, setDeclared, entryDeclared, treeDeclared, rootValid, itemTyped, listsTyped, filesDeclared, rootsValid, stateValid}
+use Rattle.state_test.specs.StateTest.{rootSetStored, setDeclared, entryDeclared, treeDeclared, rootValid, itemValid, listsValid, filesDeclared, rootsValid, stateValid}
 use Rattle.merge_rules.specs.Sound.{In, ChildValid, EntryValid, Sound}
 use Rattle.merge_rules.proofs.Laws.Lists.{allOf-each, at-each}
 use Rattle.merge_rules.proofs.Laws.Loaded.{FixedInRange}
 
 -- ---- lists
 
-item-typed : (x : Fixed) (p : Element) (i : Item) → ((e : Element) → i ≡ child e → ChildValid x p e) → itemTyped x p i ≡ true
-unfolding itemTyped
-item-typed x p (child e) h = let f : ChildValid x p e = h e refl in rw (f .found, itemTyped, eq-eqb (f .row .childType) (typeOf x e) (f .type))
-item-typed x p (text t) h = refl
+item-valid : (x : Fixed) (p : Element) (i : Item) → ((e : Element) → i ≡ child e → ChildValid x p e) → itemValid x p i ≡ true
+unfolding itemValid
+item-valid x p (child e) h =
+    let f : ChildValid x p e = h e refl in
+    rw (itemValid, eq-eqb (depthOf x e) (suc (depthOf x p)) (f .depth), f .found, eq-eqb (f .row .childType) (typeOf x e) (f .type))
+item-valid x p (text t) h = refl
 
-lists-typed : (x : Fixed) (p : Element) (ls : List (List Item)) → ((n e : ℕ) → In (child e) (getD ls n []) → ChildValid x (p + n) e) → listsTyped x p ls ≡ true
-unfolding listsTyped
-lists-typed x p [] h = refl
-lists-typed x p (l ∷ ls) h =
+lists-valid : (x : Fixed) (p : Element) (ls : List (List Item)) → ((n e : ℕ) → In (child e) (getD ls n []) → ChildValid x (p + n) e) → listsValid x p ls ≡ true
+unfolding listsValid
+lists-valid x p [] h = refl
+lists-valid x p (l ∷ ls) h =
     let z : p + 0 ≡ p = omega arith in
     let first : (e : ℕ) → In (child e) l → ChildValid x p e = λ e i. rw z at (h 0 e i) in
     let rest : (n e : ℕ) → In (child e) (getD ls n []) → ChildValid x (suc p + n) e = λ n e i. rw (suc-add p n, ← add-suc p n) (h (suc n) e i) in
-    rw (allOf-each (itemTyped x p) l (λ i j. item-typed x p i (λ e q. first e (rw q at j))), listsTyped) (lists-typed x (suc p) ls rest)
+    rw (allOf-each (itemValid x p) l (λ i j. item-valid x p i (λ e q. first e (rw q at j))), listsValid) (lists-valid x (suc p) ls rest)
 
 -- ---- the whole
 
@@ -80,5 +82,5 @@ module _ (deck : List ℕ) (x : Fixed) (r : FixedInRange deck x) (s : State) (h 
         r .valid,
         files-declared,
         roots-valid,
-        lists-typed x 0 (s .model .lists) (λ n e i. let z : 0 + n ≡ n = omega arith in rw z (h .kept .fits n e i)),
+        lists-valid x 0 (s .model .lists) (λ n e i. let z : 0 + n ≡ n = omega arith in rw z (h .kept .fits n e i)),
       )

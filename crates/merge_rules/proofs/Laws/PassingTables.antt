@@ -21,14 +21,14 @@ use Rattle.tables.proofs.Laws.Cases.{bool-split}
 use Rattle.table_test.specs.ElementsTest.{TextIn, TreeIn}
 use Rattle.table_test.specs.LogTest.{EntryIn}
 use Rattle.table_test.specs.ModelTest.{onceIn}
-use Rattle.table_test.specs.Passing.{GroupPassing, RowPassing, SchemaIn, ElementsIn, ItemTextIn, ModelIn, OneDeeper, LogIn}
+use Rattle.table_test.specs.Passing.{GroupPassing, RowPassing, SchemaIn, ElementsIn, ItemTextIn, ModelIn, LogIn}
 use Rattle.table_test.specs.SchemaTest.{TypeIn, FilesIn}
 use Rattle.table_test.proofs.Laws.LogTest.{entry-weaker}
 use Rattle.deck.specs.Schema.{declaresFile}
 use Rattle.state_test.specs.StateTest.{treeFilesDistinct}
-use Rattle.merge_rules.specs.Sound.{In, count, Once, once-nil, once-cons, Static, ItemInRange, EntryValid, Kept}
+use Rattle.merge_rules.specs.Sound.{count, Once, once-nil, once-cons, Static, ItemInRange, EntryValid, Kept}
 use Rattle.merge_rules.proofs.Laws.Elements.{distinct-first}
-use Rattle.merge_rules.proofs.Laws.Lists.{map-in, anyOf-false, in-each, at-each, flat-each, at-in}
+use Rattle.merge_rules.proofs.Laws.Lists.{map-in, anyOf-false, in-each, at-each, flat-each}
 use Rattle.merge_rules.proofs.Laws.Loaded.{FixedInRange}
 use Rattle.merge_rules.proofs.Laws.Once.{once-in, once-below}
 use Rattle.merge_rules.proofs.Laws.Parse.{SchemaInRange}
@@ -159,14 +159,6 @@ module _ (deck : List ℕ) (x : Fixed) (r : FixedInRange deck x) (static : Stati
           textsIn = flat-each (ItemTextIn (length (x .elements .texts))) (s .model .lists) (λ p i h. item-text i (k .items p i h));
           once = at-each (λ (l : List Item). onceIn l ≡ true) (s .model .lists) [] (λ p. once-in (listOf (s .model) p) (k .once p));
         }
-
-    -- its depths
-    pub deeper : OneDeeper (x .elements) (s .model)
-    deeper e i c h is =
-        let l : List Item = listOf (s .model) e in
-        let listed : In (getD l i (child 0)) l = at-in l (child 0) i h in
-        let f = k .fits e c (rw is at listed) in
-        omega (arith, f .depth)
 
     old-parent : (o : Option Element) → ((q : Element) → o ≡ some q → q < count x) → ParentBelow (count x) o
     old-parent none h = tt

@@ -20,7 +20,7 @@ use Rattle.tables.proofs.Laws.Cases.{bool-split}
 use Rattle.tables.proofs.Laws.Cells.{each-imp, each-append}
 use Rattle.tables.proofs.Laws.Scans.{all-head, all-tail, all-map, each-passes, passes-each, any-some, any-none, any-snoc-false, any-snoc-true}
 use Rattle.deck.specs.Schema.{properBeginnings, isCharacters, declaredType, groupAt, hasGroup, pathValid, groupRule, rowsMeet, beginsGroup, subElementRule}
-use Rattle.schema_calls.specs.Calls.{nameMatches, pathMatches, groupMatches, rowsAbove, GroupClosed, RowClosed, PathsClosed}
+use Rattle.schema_calls.specs.Calls.{nameMatches, pathMatches, groupMatches, rowsAbove, hasEqualRow, GroupClosed, RowClosed, PathsClosed}
 
 -- ---- equal paths
 
@@ -111,7 +111,7 @@ any-either f g (a ∷ l) = go (f a) (g a) (anyOf f l) (anyOf g l) (any-either f 
 
 -- ---- groups
 
-has-any : (sc : Schema) (t : ℕ) (p : SchemaPath) → hasGroup sc t p ≡ anyOf (groupMatches t p) (sc .groups)
+pub has-any : (sc : Schema) (t : ℕ) (p : SchemaPath) → hasGroup sc t p ≡ anyOf (groupMatches t p) (sc .groups)
 unfolding hasGroup groupAt
 has-any sc t p = go (firstOf (groupMatches t p) (sc .groups)) refl
   where
@@ -177,11 +177,7 @@ module _ (sc : Schema) (r : SubElement) (closed : PathsClosed sc) (part : 0 < le
   abbrev equals : SubElement → Bool
   equals a = nameMatches (r .type) (r .name) a || pathMatches (r .type) (r .path) a
 
-  -- to be asked of the rows above: the row's name, or its path
-  abbrev equalAbove : Bool
-  equalAbove = anyOf (nameMatches (r .type) (r .name)) (sc .subElements) || anyOf (pathMatches (r .type) (r .path)) (sc .subElements)
-
-  rows-equal : hasGroup sc (r .type) (r .path) ≡ false → anyOf (rowsMeet r) (sc .subElements) ≡ equalAbove
+  rows-equal : hasGroup sc (r .type) (r .path) ≡ false → anyOf (rowsMeet r) (sc .subElements) ≡ hasEqualRow sc r
   rows-equal free =
       any-same (rowsMeet r) equals (sc .subElements)
       (each-imp (RowClosed sc) (λ (a : SubElement). rowsMeet r a ≡ equals a) (sc .subElements)
@@ -196,10 +192,10 @@ module _ (sc : Schema) (r : SubElement) (closed : PathsClosed sc) (part : 0 < le
       ∙ sym (has-any sc (r .type) (r .path)) ∙ free
 
   pub equal-rule : (not (anyOf (rowsMeet r) (sc .subElements)) && not (anyOf (beginsGroup r) (sc .groups)))
-      ≡ (not equalAbove && not (hasGroup sc (r .type) (r .path)))
+      ≡ (not (hasEqualRow sc r) && not (hasGroup sc (r .type) (r .path)))
   equal-rule =
       bool-split (hasGroup sc (r .type) (r .path))
-      (λ held. rw (has-begins sc r held, held) (and-false (not (anyOf (rowsMeet r) (sc .subElements))) ∙ sym (and-false (not equalAbove))))
+      (λ held. rw (has-begins sc r held, held) (and-false (not (anyOf (rowsMeet r) (sc .subElements))) ∙ sym (and-false (not (hasEqualRow sc r)))))
       (λ free. rw (rows-equal free, begins-none free, free))
 
 -- ---- closed paths stay closed

@@ -1,33 +1,25 @@
 -- Laws of a type's groups: whether one stands at a path, and its mode. Assumes nothing.
-use mathlib.Core.Bool.{true, false}
+use mathlib.Core.Bool.{Bool}
 use mathlib.Core.List.{List, _∷_}
 use mathlib.Core.Option.{none, some}
 use mathlib.Core.Path.{_≡_, refl, sym, ap, _∙_}
-use Prim.Native.Nat.{ℕ, zero, suc}
-use lib.ListN.{length}
+use Prim.Native.Nat.{ℕ, zero, suc, _≤_}
+use lib.ListN.{length, getD}
 use Rattle.tables.specs.Paths.{front}
 use Rattle.tables.specs.Records.{SchemaPath, Group, Schema, typeRow}
+use Rattle.tables.specs.SchemaTable.{noGroup}
 use Rattle.deck.specs.Schema.{groupAt, hasGroup, groupMode}
-use Rattle.schema_calls.specs.Calls.{groupsAbove, Finds}
-use Rattle.schema_calls.specs.Search.{isFound}
-use Rattle.schema_calls.specs.declared.calls.Found.{Found}
-use Rattle.schema_calls.specs.declared.calls.Found.the-variants.{At, Missing}
-use Rattle.schema_calls.proofs.Laws.Scans.{found-at, found-missing}
+use Rattle.schema_calls.specs.Calls.{groupMatches, groupsAbove}
+use Rattle.schema_calls.specs.Search.{anyBelow}
+use Rattle.schema_calls.proofs.Laws.Closed.{has-any}
 use Rattle.schema_calls.proofs.Laws.Schemas.{groups-all}
+use Rattle.schema_calls.proofs.Laws.Search.{any-first}
 
-module _ (sc : Schema) (t : ℕ) (p : SchemaPath) where
-  has-some : {g : Group} → groupAt sc t p ≡ some g → true ≡ hasGroup sc t p
-  unfolding hasGroup
-  has-some e = rw (hasGroup, e)
-
-  has-none : groupAt sc t p ≡ none → false ≡ hasGroup sc t p
-  unfolding hasGroup
-  has-none e = rw (hasGroup, e)
-
-  pub has-found : {d : Group} {l : List Group} (r : Found) → Finds d l r (groupAt sc t p) → isFound r ≡ hasGroup sc t p
-  unfolding isFound
-  has-found (At i) f = has-some (found-at f refl)
-  has-found Missing f = has-none (found-missing f refl)
+-- one of the places above this one has the type and the path
+pub has-above : (sc : Schema) (n t : ℕ) (p : SchemaPath) → n ≤ length (sc .groups)
+    → {r : Bool} → r ≡ anyBelow (λ (i : ℕ). groupMatches t p (getD (sc .groups) i noGroup)) n → r ≡ hasGroup (groupsAbove sc n) t p
+unfolding groupsAbove
+has-above sc n t p h e = any-first (groupMatches t p) noGroup (sc .groups) n h e ∙ sym (has-any (groupsAbove sc n) t p)
 
 -- a path that has a part
 part-some : (sc : Schema) (t x : ℕ) (cs : List ℕ) {g : Group} → (x ≡ 0 → ⊥) → groupAt sc t (front (x ∷ cs)) ≡ some g → g .mode ≡ groupMode sc t (front (x ∷ cs))

@@ -1,17 +1,19 @@
 -- Laws of the schema rules, test by test. Assumes nothing.
-use mathlib.Core.Bool.{Bool, true, false, not, _&&_, _||_}
+use mathlib.Core.Bool.{Bool, true, false, not, _&&_}
 use mathlib.Core.Path.{_≡_, refl, sym, ap, _∙_}
-use Prim.Native.Nat.{ℕ, _<_}
+use Prim.Native.Nat.{ℕ, _≤_, _<_}
 use native.Mathlib.Omega.{arith}
 use borrow.Author.Tests.{ltb-true}
-use lib.ListN.{length, take}
+use lib.ListN.{length, getD, take}
 use Rattle.tables.specs.Lists.{anyOf, allOf}
 use Rattle.tables.specs.Records.{SchemaPath, Mode, sequence, choice, bag, mixed, characters, SubElement, Schema, typeRow}
-use Rattle.tables.specs.SchemaTable.{modeNumber}
-use Rattle.deck.specs.Schema.{properBeginnings, isCharacters, declaredType, groupAt, hasGroup, pathValid, groupRule, subElementRule}
-use Rattle.schema_calls.specs.Calls.{nameMatches, pathMatches, groupsAbove, rowsAbove, PathsClosed}
+use Rattle.tables.specs.SchemaTable.{modeNumber, noSubElement}
+use Rattle.deck.specs.Schema.{properBeginnings, isCharacters, declaredType, groupAt, hasGroup, pathValid, subElementRule}
+use Rattle.schema_calls.specs.Calls.{nameMatches, pathMatches, groupsAbove, rowsAbove, hasEqualRow, PathsClosed}
+use Rattle.schema_calls.specs.Search.{anyBelow}
 use Rattle.schema_calls.proofs.Laws.Schemas.{groups-all}
 use Rattle.schema_calls.proofs.Laws.Closed.{equal-rule, rule-declared}
+use Rattle.schema_calls.proofs.Laws.Search.{any-first}
 
 -- ---- mode 4
 
@@ -51,18 +53,22 @@ module _ (sc : Schema) (n t : ℕ) (p : SchemaPath) {b : Bool} (e : b ≡ declar
     unfolding pathValid groupsAbove declaredType
     path-beginnings h w = rw (sym e ∙ declared, characters-not (typeRow sc t .mode) (λ z. h (k ∙ z))) w
 
--- ---- G rows
-
-module _ (sc : Schema) (t : ℕ) (p : SchemaPath) {s : Bool} (e : s ≡ pathValid sc t p) (mode : Mode) where
-  pub group-path-invalid : s ≡ false → false ≡ groupRule sc (record { type = t; path = p; mode = mode })
-  unfolding groupRule
-  group-path-invalid h = rw (sym e ∙ h)
-
-  pub group-once : s ≡ true → {g : Bool} → g ≡ hasGroup sc t p → not g ≡ groupRule sc (record { type = t; path = p; mode = mode })
-  unfolding groupRule
-  group-once h k = rw (sym e ∙ h, k)
-
 -- ---- S rows
+
+-- a row above with the name, or with the path
+module _ (sc : Schema) (r : SubElement) (n : ℕ) (h : n ≤ length (sc .subElements)) {a : Bool}
+    (named : a ≡ anyBelow (λ (i : ℕ). nameMatches (r .type) (r .name) (getD (sc .subElements) i noSubElement)) n) where
+  name-above : anyOf (nameMatches (r .type) (r .name)) (take n (sc .subElements)) ≡ a
+  name-above = sym (any-first (nameMatches (r .type) (r .name)) noSubElement (sc .subElements) n h named)
+
+  pub equal-named : a ≡ true → true ≡ hasEqualRow (rowsAbove sc n) r
+  unfolding rowsAbove
+  equal-named e = rw (name-above ∙ e)
+
+  pub equal-path : a ≡ false → {b : Bool} → b ≡ anyBelow (λ (i : ℕ). pathMatches (r .type) (r .path) (getD (sc .subElements) i noSubElement)) n
+      → b ≡ hasEqualRow (rowsAbove sc n) r
+  unfolding rowsAbove
+  equal-path e k = rw (name-above ∙ e) (any-first (pathMatches (r .type) (r .path)) noSubElement (sc .subElements) n h k)
 
 -- an S row's path is valid by the groups alone
 path-rows : (sc : Schema) (m t : ℕ) (p : SchemaPath) → pathValid sc t p ≡ pathValid (rowsAbove sc m) t p
@@ -95,9 +101,9 @@ module _ (sc : Schema) (m : ℕ) (r : SubElement) (n : ℕ) (all : n ≡ length 
     sub-child-not h = rw (valid ∙ hs, child ∙ h)
 
     module _ (hd : d ≡ true) (closed : PathsClosed (rowsAbove sc m)) (part : 0 < length (r .path)) {k : Bool}
-        (ek : k ≡ (anyOf (nameMatches (r .type) (r .name)) (take m (sc .subElements)) || anyOf (pathMatches (r .type) (r .path)) (take m (sc .subElements)))) where
+        (ek : k ≡ hasEqualRow (rowsAbove sc m) r) where
       equal-above : subElementRule (rowsAbove sc m) r ≡ (not k && not (hasGroup (rowsAbove sc m) (r .type) (r .path)))
-      unfolding subElementRule rowsAbove
+      unfolding subElementRule
       equal-above = rw (valid ∙ hs, child ∙ hd, ek) (equal-rule (rowsAbove sc m) r closed part (valid ∙ hs))
 
       pub sub-meets : k ≡ true → false ≡ subElementRule (rowsAbove sc m) r

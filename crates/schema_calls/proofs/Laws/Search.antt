@@ -10,18 +10,19 @@ use borrow.Author.Tests.{eqb-true, eqb-false, lt-ltb, le-ltb}
 use lib.Dec.{eqb, ltb}
 use lib.ListN.{length, getD, take}
 use lib.Seq.{take-suc, take-all}
-use Rattle.tables.specs.Index.{latest, bucket}
+use Rattle.tables.specs.Index.{latest, bucket, pathBucket}
 use Rattle.tables.specs.Lists.{anyOf, firstOf}
 use Rattle.tables.specs.Paths.{samePath, partsOf}
-use Rattle.tables.specs.Records.{SubElement, Schema}
+use Rattle.tables.specs.Records.{SchemaPath, SubElement, Schema}
 use Rattle.tables.specs.SchemaTable.{nameKey, keyIn, noGroup, noSubElement}
 use Rattle.tables.specs.declared.index.Index.{Index}
+use Rattle.tables.specs.declared.index.Index.the-variants.{Groups, Names, Paths}
 use Rattle.tables.proofs.Laws.Cases.{bool-split}
 use Rattle.tables.proofs.Laws.Index.{latest-most}
 use Rattle.tables.proofs.Laws.Scans.{any-some, any-none}
 use Rattle.deck.specs.Schema.{meets}
 use Rattle.schema_calls.specs.Calls.{Finds, foundIn, nameMatches}
-use Rattle.schema_calls.specs.Search.{indexFor, bucketFor, matchesAt, firstFound, foundAt, firstBelow, isFound, anyBelow}
+use Rattle.schema_calls.specs.Search.{indexFor, bucketFor, matchesAt, alikeAt, firstFound, foundAt, firstBelow, isFound, anyBelow}
 use Rattle.schema_calls.specs.declared.calls.Found.{Found}
 use Rattle.schema_calls.specs.declared.calls.Found.the-variants.{At, Missing}
 use Rattle.schema_calls.specs.declared.search.Sought.{Sought}
@@ -36,19 +37,29 @@ key-of-name r t n h =
     let (e, f) = and-eq-true-iff (eqb (r .type) t) (eqb (r .name) n) .0 h in
     rw (eqb-true (r .type) t e, eqb-true (r .name) n f)
 
+key-of-path : (type t : ℕ) (path p : SchemaPath) → (eqb type t && samePath path p) ≡ true → pathBucket type path ≡ pathBucket t p
+key-of-path type t path p h =
+    let (e, f) = and-eq-true-iff (eqb type t) (samePath path p) .0 h in
+    rw (eqb-true type t e, same-equal path p f)
+
 key-of-match : (sc : Schema) (s : Sought) (i : ℕ) → matchesAt sc s i ≡ true → keyIn sc (indexFor s) i ≡ bucketFor s
 key-of-match sc (Row t n m) i h =
     let r : SubElement = getD (sc .subElements) i noSubElement in
     key-of-name r (t .0) (n .0) (and-eq-true-iff (nameMatches (t .0) (n .0) r) (meets (r .mask) m) .0 h .0)
 key-of-match sc (Name t n) i h = key-of-name (getD (sc .subElements) i noSubElement) (t .0) (n .0) h
-key-of-match sc (Path t p) i h =
-    let r : SubElement = getD (sc .subElements) i noSubElement in
-    let (e, f) = and-eq-true-iff (eqb (r .type) (t .0)) (samePath (r .path) (partsOf p)) .0 h in
-    rw (eqb-true (r .type) (t .0) e, same-equal (r .path) (partsOf p) f)
-key-of-match sc (Group t p) i h =
+key-of-match sc (Path t p) i h = let r = getD (sc .subElements) i noSubElement in key-of-path (r .type) (t .0) (r .path) (partsOf p) h
+key-of-match sc (Group t p) i h = let g = getD (sc .groups) i noGroup in key-of-path (g .type) (t .0) (g .path) (partsOf p) h
+
+pub key-of-alike : (sc : Schema) (x : Index) (i k : ℕ) → alikeAt sc x i k ≡ true → keyIn sc x k ≡ keyIn sc x i
+key-of-alike sc Groups i k h =
     let g = getD (sc .groups) i noGroup in
-    let (e, f) = and-eq-true-iff (eqb (g .type) (t .0)) (samePath (g .path) (partsOf p)) .0 h in
-    rw (eqb-true (g .type) (t .0) e, same-equal (g .path) (partsOf p) f)
+    let a = getD (sc .groups) k noGroup in
+    key-of-path (a .type) (g .type) (a .path) (g .path) h
+key-of-alike sc Names i k h = let r = getD (sc .subElements) i noSubElement in key-of-name (getD (sc .subElements) k noSubElement) (r .type) (r .name) h
+key-of-alike sc Paths i k h =
+    let r = getD (sc .subElements) i noSubElement in
+    let a = getD (sc .subElements) k noSubElement in
+    key-of-path (a .type) (r .type) (a .path) (r .path) h
 
 -- ---- the first of two answers
 
@@ -56,6 +67,11 @@ found-missing-right : (r : Found) → firstFound r Missing ≡ r
 unfolding firstFound
 found-missing-right (At i) = refl
 found-missing-right Missing = refl
+
+found-last : (r : Found) (i : ℕ) → true ≡ isFound (firstFound r (At i))
+unfolding firstFound isFound
+found-last (At j) i = refl
+found-last Missing i = refl
 
 found-thrice : (p q r : Found) → firstFound (firstFound p q) r ≡ firstFound p (firstFound q r)
 unfolding firstFound
@@ -175,6 +191,10 @@ module _ (key : ℕ → ℕ) (t : ℕ → Bool) (b : ℕ) where
     pub walk-found : Keyed → (next ≡ 0 → ⊥) → {last : ℕ} → last ≡ latest key (key (next - 1)) (next - 1) → t (next - 1) ≡ true → Walk n last (At (next - 1))
     unfolding firstFound
     walk-found keyed h e f = rw f at (walk-turn keyed h e)
+
+    -- then some place below n passes
+    pub walk-any : Keyed → (next ≡ 0 → ⊥) → t (next - 1) ≡ true → true ≡ anyBelow t n
+    walk-any keyed h f = found-last (firstBelow t _) (next - 1) ∙ ap isFound (walk-found keyed h refl f .left)
 
     pub walk-end : next ≡ 0 → found ≡ firstBelow t n
     unfolding firstFound firstBelow

@@ -1,9 +1,10 @@
 -- Laws of roots and of listed elements. Assumes nothing.
-use mathlib.Core.Bool.{Bool, true, false, not, _&&_, and-eq-true-iff}
+use mathlib.Core.Bool.{Bool, true, false, not, _&&_, and-eq-true-iff, false≢true}
 use mathlib.Core.List.{List, [], _∷_}
 use mathlib.Core.Option.{none, some, Option·none-ne-some, Option·some-injective}
-use mathlib.Core.Path.{_≡_, sym, ap, _∙_}
-use Prim.Native.Nat.{ℕ, suc, _+_, _≤_, _<_}
+use mathlib.Core.Path.{_≡_, refl, sym, ap, _∙_}
+use Prim.Native.Nat.{ℕ, zero, suc, _+_, _≤_, _<_}
+use native.Mathlib.Nat.{add-zero}
 use native.Mathlib.Numerals.{add-one}
 use native.Mathlib.Omega.{arith}
 use borrow.Author.Tests.{not-true, not-false, eq-eqb, ne-eqb, eqb-true}
@@ -12,11 +13,11 @@ use lib.ListN.{length, getD, drop, List·getD-eq-default}
 use Rattle.tables.specs.Lists.{allOf, firstOf}
 use Rattle.tables.specs.Records.{Item, child, Tree, SubElement, Schema, Fixed, root, nameOf, typeOf, depthOf}
 use Rattle.tables.specs.SchemaTable.{noSubElement}
-use Rattle.tables.proofs.Laws.Cases.{bool-case}
+use Rattle.tables.proofs.Laws.Cases.{bool-case, bool-split}
 use Rattle.deck.specs.Schema.{meets, allVersions, findSubElement, rowOfName}
 use Rattle.schema_calls.specs.Calls.{Finds, foundIn}
 use Rattle.schema_calls.specs.declared.calls.Found.the-variants.{At}
-use Rattle.state_test.specs.StateTest.{rootValid, rootsValid, itemTyped, listsTyped, FoundRow}
+use Rattle.state_test.specs.StateTest.{rootValid, rootsValid, itemValid, listsValid, FoundRow}
 use Rattle.tables.proofs.Laws.Scans.{drop-next, drop-end}
 
 -- ---- roots
@@ -47,19 +48,27 @@ module _ (x : Fixed) where
 
 -- ---- a listed element e of p
 
-module _ (x : Fixed) (p e : ℕ) {t n : ℕ} (ht : t ≡ typeOf x p) (hn : n ≡ nameOf x e) where
-  pub no-row : rowOfName (x .schema) t n ≡ none → false ≡ itemTyped x p (child e)
-  unfolding itemTyped
-  no-row h =
-      let k : rowOfName (x .schema) (typeOf x p) (nameOf x e) ≡ none = (λ j. rowOfName (x .schema) (sym ht j) (sym hn j)) ∙ h in
-      rw (itemTyped, k)
+module _ (x : Fixed) (p e : ℕ) {d o : ℕ} (hd : d ≡ depthOf x e) (ho : o ≡ depthOf x p) where
+  pub not-deeper : (d ≡ o + 1 → ⊥) → false ≡ itemValid x p (child e)
+  unfolding itemValid
+  not-deeper n = rw (itemValid, ne-eqb (depthOf x e) (suc (depthOf x p)) (λ z. n (omega arith)))
 
-  pub some-row : {r : SubElement} → rowOfName (x .schema) t n ≡ some r → {c u : ℕ} → c ≡ r .childType → u ≡ typeOf x e
-      → eqb c u ≡ itemTyped x p (child e)
-  unfolding itemTyped
-  some-row {r} h a b =
-      let k : rowOfName (x .schema) (typeOf x p) (nameOf x e) ≡ some r = (λ j. rowOfName (x .schema) (sym ht j) (sym hn j)) ∙ h in
-      rw (itemTyped, k, a, b)
+  module _ (one : d ≡ o + 1) {t n : ℕ} (ht : t ≡ typeOf x p) (hn : n ≡ nameOf x e) where
+    deeper : eqb (depthOf x e) (suc (depthOf x p)) ≡ true
+    deeper = eq-eqb (depthOf x e) (suc (depthOf x p)) (omega arith)
+
+    pub no-row : rowOfName (x .schema) t n ≡ none → false ≡ itemValid x p (child e)
+    unfolding itemValid
+    no-row h =
+        let k : rowOfName (x .schema) (typeOf x p) (nameOf x e) ≡ none = (λ j. rowOfName (x .schema) (sym ht j) (sym hn j)) ∙ h in
+        rw (itemValid, deeper, k)
+
+    pub some-row : {r : SubElement} → rowOfName (x .schema) t n ≡ some r → {c u : ℕ} → c ≡ r .childType → u ≡ typeOf x e
+        → eqb c u ≡ itemValid x p (child e)
+    unfolding itemValid
+    some-row {r} h a b =
+        let k : rowOfName (x .schema) (typeOf x p) (nameOf x e) ≡ some r = (λ j. rowOfName (x .schema) (sym ht j) (sym hn j)) ∙ h in
+        rw (itemValid, deeper, k, a, b)
 
 -- ---- the row found last
 
@@ -93,19 +102,34 @@ module _ (sc : Schema) (i : ℕ) where
 -- ---- the lists, r the answer for the list of p
 
 module _ (x : Fixed) (ls : List (List Item)) (p : ℕ) where
-  module _ (h : p < length ls) {r : Bool} (is : r ≡ allOf (itemTyped x p) (getD ls p [])) where
-    pub lists-stop : not r ≡ true → listsTyped x p (drop p ls) ≡ listsTyped x 0 ls → false ≡ listsTyped x 0 ls
-    unfolding listsTyped
+  module _ (h : p < length ls) {r : Bool} (is : r ≡ allOf (itemValid x p) (getD ls p [])) where
+    pub lists-stop : not r ≡ true → listsValid x p (drop p ls) ≡ listsValid x 0 ls → false ≡ listsValid x 0 ls
+    unfolding listsValid
     lists-stop n inv =
-        let k : listsTyped x p (drop p ls) ≡ false = rw (drop-next ls p [] h, listsTyped, sym is ∙ not-true r n) in
+        let k : listsValid x p (drop p ls) ≡ false = rw (drop-next ls p [] h, listsValid, sym is ∙ not-true r n) in
         sym k ∙ inv
 
-    pub lists-more : not r ≡ false → listsTyped x p (drop p ls) ≡ listsTyped x 0 ls → listsTyped x (p + 1) (drop (p + 1) ls) ≡ listsTyped x 0 ls
-    unfolding listsTyped
+    pub lists-more : not r ≡ false → listsValid x p (drop p ls) ≡ listsValid x 0 ls → listsValid x (p + 1) (drop (p + 1) ls) ≡ listsValid x 0 ls
+    unfolding listsValid
     lists-more n inv =
-        let k : listsTyped x p (drop p ls) ≡ listsTyped x (suc p) (drop (p + 1) ls) = rw (drop-next ls p [] h, listsTyped, sym is ∙ not-false r n) in
-        ap (λ (q : ℕ). listsTyped x q (drop (p + 1) ls)) (add-one p) ∙ sym k ∙ inv
+        let k : listsValid x p (drop p ls) ≡ listsValid x (suc p) (drop (p + 1) ls) = rw (drop-next ls p [] h, listsValid, sym is ∙ not-false r n) in
+        ap (λ (q : ℕ). listsValid x q (drop (p + 1) ls)) (add-one p) ∙ sym k ∙ inv
 
-  pub lists-end : length ls ≤ p → listsTyped x p (drop p ls) ≡ listsTyped x 0 ls → true ≡ listsTyped x 0 ls
-  unfolding listsTyped
-  lists-end h inv = let k : listsTyped x p (drop p ls) ≡ true = rw (drop-end ls p h) in sym k ∙ inv
+  pub lists-end : length ls ≤ p → listsValid x p (drop p ls) ≡ listsValid x 0 ls → true ≡ listsValid x 0 ls
+  unfolding listsValid
+  lists-end h inv = let k : listsValid x p (drop p ls) ≡ true = rw (drop-end ls p h) in sym k ∙ inv
+
+-- ---- what passes
+
+lists-both : (x : Fixed) (p : ℕ) (l : List Item) (ls : List (List Item)) → listsValid x p (l ∷ ls) ≡ true
+    → (allOf (itemValid x p) l ≡ true) × (listsValid x (suc p) ls ≡ true)
+unfolding listsValid
+lists-both x p l ls h =
+    bool-split (allOf (itemValid x p) l) (λ e. (e, rw (listsValid, e) at h)) (λ e. absurd (false≢true (rw (listsValid, e) at h)))
+
+-- the n-th list from the owner p on
+pub list-at : (x : Fixed) (p : ℕ) (ls : List (List Item)) (n : ℕ) → listsValid x p ls ≡ true → allOf (itemValid x (p + n)) (getD ls n []) ≡ true
+unfolding allOf
+list-at x p [] n h = refl
+list-at x p (l ∷ ls) zero h = rw (add-zero p) (lists-both x p l ls h .0)
+list-at x p (l ∷ ls) (suc n) h = let z : p + suc n ≡ suc p + n = omega arith in rw z (list-at x (suc p) ls n (lists-both x p l ls h .1))

@@ -20,7 +20,7 @@ use Rattle.table_test.specs.ElementsTest.{TreeIn}
 use Rattle.table_test.specs.SchemaTest.{RowIn, FilesIn, TestedSchema}
 use Rattle.table_test.specs.TablesTest.{tablesPass, TestedTables}
 use Rattle.table_test.proofs.Laws.TablesTest.{tested-tables}
-use Rattle.state_test.specs.StateTest.{PathFilled, schemaValid, filesDeclared, rootsValid, listsTyped, stateValid, lentTablesPass, fixedIn, stateIn}
+use Rattle.state_test.specs.StateTest.{PathFilled, schemaValid, filesDeclared, rootsValid, listsValid, stateValid, lentTablesPass, fixedIn, stateIn}
 
 module _ (x : Fixed) (s : State) where
   pub state-stop-1 : schemaValid (x .schema) ≡ false → false ≡ stateValid x s
@@ -37,7 +37,7 @@ module _ (x : Fixed) (s : State) where
       unfolding stateValid
       state-stop-3 e = rw (stateValid, a, b, e)
 
-      pub state-last : rootsValid x ≡ true → {r : Bool} → r ≡ listsTyped x 0 (s .model .lists) → r ≡ stateValid x s
+      pub state-last : rootsValid x ≡ true → {r : Bool} → r ≡ listsValid x 0 (s .model .lists) → r ≡ stateValid x s
       unfolding stateValid
       state-last e g = g ∙ rw (stateValid, a, b, e)
 

@@ -20,12 +20,11 @@ use Rattle.tables.specs.declared.index.Index.{Index}
 use Rattle.tables.specs.declared.index.Index.the-variants.{Groups, Names, Paths}
 use Rattle.tables.proofs.Laws.Cells.{length-rowsOf, getD-rowsOf}
 use Rattle.tables.proofs.Laws.Lists.{same-lists}
-use Rattle.tables.proofs.Laws.Scans.{drop-next}
+use Rattle.tables.proofs.Laws.Scans.{drop-next, and-all}
 use Rattle.tables.proofs.Laws.SchemaTable.{wide-group, wide-row, indexArea}
 use Rattle.table_test.specs.SchemaTest.{pathBucketAt, nameBucketAt, indexTests, indexPasses, Counted}
 use Rattle.table_test.specs.RowTests.{every}
 use Rattle.table_test.proofs.Laws.RowsTest.{every-at}
-use Rattle.table_test.proofs.Laws.Scans.{and-all}
 
 -- ---- two lists of one length, b being the answer for the cells before j
 

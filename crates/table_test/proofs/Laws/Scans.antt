@@ -1,5 +1,5 @@
 -- Laws of scans: cells that are all zero, entries that do not fall, and no element twice in a list. Assumes nothing.
-use mathlib.Core.Bool.{Bool, true, false, _&&_, and-true}
+use mathlib.Core.Bool.{Bool, true, false, _&&_, and-true, and-assoc}
 use mathlib.Core.List.{List, [], _∷_, map}
 use mathlib.Core.Path.{_≡_, refl, sym, ap, _∙_}
 use Prim.Native.Nat.{ℕ, zero, suc, _+_, _-_, _≤_, _<_}
@@ -16,18 +16,13 @@ use Rattle.tables.specs.Records.{Item, child, text}
 use Rattle.tables.specs.ModelTable.{cellItem}
 use Rattle.table_test.specs.ModelTest.{isZero, rising, sameChild, onceIn}
 use Rattle.tables.proofs.Laws.ModelTable.{cellItem-child, cellItem-text}
-use Rattle.tables.proofs.Laws.Scans.{drop-next, all-end}
+use Rattle.tables.proofs.Laws.Scans.{drop-next, drop-end, all-end, and-all}
 
 -- ---- cells that are all zero
 
 or-zero : (a b : ℕ) → eqb (bitOr a b) 0 ≡ (eqb a 0 && eqb b 0)
 or-zero zero b = refl
 or-zero (suc a) b = rw (ne-eqb (suc a) 0 (λ e. absurd (omega (arith, e)))) (ne-eqb (bitOr (suc a) b) 0 (λ e. absurd (omega (arith, e, or-add-and (suc a) b, and-le-r (suc a) b))))
-
-pub and-all : (a b c : Bool) → (a && b && c) ≡ (a && elim b [ true ↦ c | false ↦ false ])
-and-all true true c = refl
-and-all true false c = refl
-and-all false b c = refl
 
 -- x has the bits of all cells before j
 module _ (x : ℕ) (s : List ℕ) (j : ℕ) where
@@ -40,18 +35,15 @@ module _ (x : ℕ) (s : List ℕ) (j : ℕ) where
 
 -- ---- entries that do not fall
 
-module _ (a : ℕ) (s : List ℕ) (j : ℕ) where
-  pub rising-more : j < length s → a ≤ getD s j 0 → rising (getD s j 0) (drop (j + 1) s) ≡ rising a (drop j s)
+-- b is the answer for the entries before j, the last of which is a
+module _ (b : Bool) (a : ℕ) (s : List ℕ) (j : ℕ) where
+  pub rising-next : j < length s → (b && leb a (getD s j 0) && rising (getD s j 0) (drop (j + 1) s)) ≡ (b && rising a (drop j s))
   unfolding rising
-  rising-more h k = rw (add-one j, drop-cons s j 0 h, rising, le-leb a (getD s j 0) k)
+  rising-next h = rw (drop-next s j 0 h, rising) (and-assoc b (leb a (getD s j 0)) (rising (getD s j 0) (drop (j + 1) s)))
 
-  pub rising-stop : j < length s → getD s j 0 < a → rising a (drop j s) ≡ false
+  pub rising-done : length s ≤ j → (b && leb a itemLimit) ≡ (b && rising a (drop j s))
   unfolding rising
-  rising-stop h k = rw (drop-cons s j 0 h, rising, lt-leb a (getD s j 0) k)
-
-  pub rising-end : length s ≤ j → rising a (drop j s) ≡ leb a itemLimit
-  unfolding rising
-  rising-end h = rw (drop-of-length-le s h)
+  rising-done h = rw (drop-end s j h)
 
 -- ---- no element twice in a list
 

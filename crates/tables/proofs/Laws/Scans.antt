@@ -1,7 +1,8 @@
 -- Laws of scans: a test of every entry, of some entry, the first entry that passes, each from entry i on; what they say of the whole list.
 -- Assumes nothing.
-use mathlib.Core.Bool.{Bool, true, false, false≢true}
-use mathlib.Core.List.{List, [], _∷_, _++_, map}
+use mathlib.Core.Bool.{Bool, true, false, false≢true, _&&_, and-true}
+use mathlib.Core.List.{List, [], _∷_, _++_, map, List·Memᴰ, List·Memᴰ·not-nil, List·Memᴰ·cases-cons}
+use mathlib.Core.Logic.{⊎-elim}
 use mathlib.Core.Option.{Option, none, some, Option·none-ne-some}
 use mathlib.Core.Path.{_≡_, refl, sym, ap, _∙_}
 use Prim.Native.Nat.{ℕ, zero, suc, _+_, _≤_, _<_}
@@ -59,6 +60,21 @@ module _ {A : Type 0} (t : A → Bool) (s : List A) (i : ℕ) where
   unfolding firstOf
   first-end h = rw (drop-end s i h)
 
+-- ---- the same where b is the answer for the entries before i
+
+pub and-all : (a b c : Bool) → (a && b && c) ≡ (a && elim b [ true ↦ c | false ↦ false ])
+and-all true true c = refl
+and-all true false c = refl
+and-all false b c = refl
+
+module _ {A : Type 0} (t : A → Bool) (b : Bool) (s : List A) (i : ℕ) where
+  pub all-next : (d : A) → i < length s → (b && t (getD s i d) && allOf t (drop (i + 1) s)) ≡ (b && allOf t (drop i s))
+  unfolding allOf
+  all-next d h = rw (drop-next s i d h, allOf) (and-all b (t (getD s i d)) (allOf t (drop (i + 1) s)))
+
+  pub all-done : length s ≤ i → b ≡ (b && allOf t (drop i s))
+  all-done h = rw (all-end t s i h) (sym (and-true b))
+
 -- ---- every entry passes
 
 module _ {A : Type 0} (t : A → Bool) where
@@ -74,6 +90,10 @@ module _ {A : Type 0} (t : A → Bool) where
   all-at [] i d h k = absurd (not-suc-le-zero k)
   all-at (a ∷ l) zero d h k = all-head a l h
   all-at (a ∷ l) (suc i) d h k = all-at l i d (all-tail a l h) (le-of-suc-le-suc k)
+
+  pub all-in : (l : List A) → allOf t l ≡ true → (a : A) → List·Memᴰ a l → t a ≡ true
+  all-in [] h a i = absurd (List·Memᴰ·not-nil i)
+  all-in (b ∷ l) h a i = ⊎-elim (λ e. ap t e ∙ all-head b l h) (all-in l (all-tail b l h) a) (List·Memᴰ·cases-cons i)
 
   pub each-passes : (l : List A) → Each (λ (a : A). t a ≡ true) l → allOf t l ≡ true
   unfolding allOf

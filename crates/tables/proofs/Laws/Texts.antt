@@ -1,5 +1,5 @@
 -- Laws of texts: when two are equal. Assumes nothing.
-use mathlib.Core.Bool.{Bool, true, false, not, _||_}
+use mathlib.Core.Bool.{Bool, true, false, not, _||_, _&&_}
 use mathlib.Core.List.{List, [], _∷_}
 use mathlib.Core.Logic.{_⊎_, inl, inr}
 use mathlib.Core.Path.{_≡_, refl, sym, ap, _∙_}
@@ -19,6 +19,7 @@ use Rattle.tables.specs.declared.text.Text.the-variants.{Number, Str, Wh
 use Rattle.tables.specs.Lists.{sameList}
 use Rattle.tables.specs.Records.{Place, Text, enumNumber, string, wholeNumber, float}
 use Rattle.tables.specs.Texts.{bytesAt, sameFloats, sameFloat, sameText, valueOf, sameValues}
+use Rattle.tables.proofs.Laws.Scans.{and-all}
 
 -- ---- floats
 
@@ -98,18 +99,25 @@ module _ (d : List ℕ) (a b n : ℕ) where
   bytes-end i h = let e : n - i ≡ 0 = omega arith in rw e
 
   module _ (i : ℕ) (h : i < n) (ha : a + n ≤ length d) (hb : b + n ≤ length d) where
+    abbrev left : Bool
+    left = sameList (take (n - (i + 1)) (drop (a + (i + 1)) d)) (take (n - (i + 1)) (drop (b + (i + 1)) d))
+
+    bytes-here : sameList (take (n - i) (drop (a + i) d)) (take (n - i) (drop (b + i) d))
+        ≡ elim (eqb (getD d (a + i) 0) (getD d (b + i) 0)) [ true ↦ left | false ↦ false ]
+    unfolding sameList
+    bytes-here = rw (part-at d a i n h ha, part-at d b i n h hb, sameList)
+
     pub bytes-differ : (getD d (a + i) 0 ≡ getD d (b + i) 0 → ⊥)
         → sameList (take (n - i) (drop (a + i) d)) (take (n - i) (drop (b + i) d)) ≡ false
-    unfolding sameList
-    bytes-differ k =
-        rw (part-at d a i n h ha, part-at d b i n h hb, ne-eqb (getD d (a + i) 0) (getD d (b + i) 0) k, sameList)
+    bytes-differ k = bytes-here ∙ rw (ne-eqb (getD d (a + i) 0) (getD d (b + i) 0) k)
 
-    pub bytes-more : getD d (a + i) 0 ≡ getD d (b + i) 0
-        → sameList (take (n - i) (drop (a + i) d)) (take (n - i) (drop (b + i) d))
-        ≡ sameList (take (n - (i + 1)) (drop (a + (i + 1)) d)) (take (n - (i + 1)) (drop (b + (i + 1)) d))
-    unfolding sameList
-    bytes-more k =
-        rw (part-at d a i n h ha, part-at d b i n h hb, eq-eqb (getD d (a + i) 0) (getD d (b + i) 0) k, sameList)
+    pub bytes-more : getD d (a + i) 0 ≡ getD d (b + i) 0 → sameList (take (n - i) (drop (a + i) d)) (take (n - i) (drop (b + i) d)) ≡ left
+    bytes-more k = bytes-here ∙ rw (eq-eqb (getD d (a + i) 0) (getD d (b + i) 0) k)
+
+    -- the same where t is the answer for the bytes before i
+    pub bytes-next : (t : Bool)
+        → (t && eqb (getD d (a + i) 0) (getD d (b + i) 0) && left) ≡ (t && sameList (take (n - i) (drop (a + i) d)) (take (n - i) (drop (b + i) d)))
+    bytes-next t = and-all t (eqb (getD d (a + i) 0) (getD d (b + i) 0)) left ∙ ap (λ (r : Bool). t && r) (sym bytes-here)
 
 -- strings of different lengths are not the same
 pub sizes-differ : (d : List ℕ) (p q : Place) → p .start + p .size ≤ length d → q .start + q .size ≤ length d → (p .size ≡ q .size → ⊥)

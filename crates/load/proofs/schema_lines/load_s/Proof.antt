@@ -25,25 +25,26 @@ returns-2 c elements model g =
 
 sub-element-rule-requires : tie.Need-sub-element-rule-requires
 sub-element-rule-requires c κs =
-    let b = c .before .before .before .before .before .before .before in
-    let n = c .before .before .before .before .row-count .ensures in
-    (b .pre .0, (omega (arith, n), (subst PathsClosed (sym (rows-all (schemaOf (b .args .schema .now)) _ n)) (b .pre .1 .1), b .pre .1 .0 .1)))
+    let b = c .before .before .before .before .before .before .before .before .before in
+    let n = c .before .before .before .before .before .before .row-count .ensures in
+    let closed = subst PathsClosed (sym (rows-all (schemaOf (b .args .schema .now)) _ n)) (b .pre .1 .1) in
+    (b .pre .0, (omega (arith, n), (closed, (b .pre .1 .0 .1, c .before .rows-meet .ensures))))
 
 returns-3 : tie.Need-returns-3
 returns-3 c elements model g =
-    let b = c .before .before .before .before .before .before .before .before .before .before in
-    let n = c .before .before .before .before .before .before .before .row-count .ensures in
+    let b = c .before .before .before .before .before .before .before .before .before .before .before .before in
+    let n = c .before .before .before .before .before .before .before .before .before .row-count .ensures in
     let rule =
     row-rule-is (schemaOf (b .args .schema .now)) _ (rowIs (b .args .c)) _ _ n (c .before .before .sub-element-rule .ensures) (not-true _ (c .before .if3 .taken))
     in
     line-refused _ _ _ elements model _ 2 (c .refuse3 .ensures) g
-    (s-row _ _ ∙ row-broken _ _ _ _ _ _ (c .before .before .before .before .before .if1 .left) (rw n at (c .before .before .before .before .if2 .left)) rule)
+    (s-row _ _ ∙ row-broken _ _ _ _ _ _ (c .before .before .before .before .before .before .before .if1 .left) (rw n at (c .before .before .before .before .before .before .if2 .left)) rule)
 
 returns-4 : tie.Need-returns-4
 returns-4 c elements model g =
-    let b = c .before .before .before .before .before .before .before .before .before .before .before .before .before .before .before in
+    let b = c .before .before .before .before .before .before .before .before .before .before .before .before .before .before .before .before .before in
     let xs = b .args .schema .now in
-    let n = c .before .before .before .before .before .before .before .before .before .before .before .before .row-count .ensures in
+    let n = c .before .before .before .before .before .before .before .before .before .before .before .before .before .before .row-count .ensures in
     let rule =
     row-rule-is (schemaOf (b .args .schema .now)) _ (rowIs (b .args .c)) _ _ n (c .before .before .before .before .before .before .before .sub-element-rule .ensures) (not-false _ (c .before .before .before .before .before .before .if3 .left))
     in
@@ -52,7 +53,7 @@ returns-4 c elements model g =
     g
     (c .before .before .before .before .add-row .ensures)
     (fits-row _ (g .fits) _ (b .pre .1 .0 .1) rule)
-    (s-row _ _ ∙ row-taken _ _ _ _ _ _ (c .before .before .before .before .before .before .before .before .before .before .if1 .left) (rw n at (c .before .before .before .before .before .before .before .before .before .if2 .left)) rule)
+    (s-row _ _ ∙ row-taken _ _ _ _ _ _ (c .before .before .before .before .before .before .before .before .before .before .before .before .if1 .left) (rw n at (c .before .before .before .before .before .before .before .before .before .before .before .if2 .left)) rule)
 
 pub load-s-spec : {M : Type 1} → statement M
 load-s-spec =
@@ -65,6 +66,7 @@ load-s-spec =
     (λ c κs. search needs)
     (λ c. search needs)
     returns-2
+    (λ c κs. search needs)
     sub-element-rule-requires
     (λ c κs. search needs)
     (λ c. search needs)

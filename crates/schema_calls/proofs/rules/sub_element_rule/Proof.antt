@@ -28,32 +28,32 @@ returns-2 c =
 
 returns-3 : tie.Need-returns-3
 returns-3 c =
+    let s = c .before .before .before .before .before .before .before .args in
+    let groups = c .before .before .before .before .before .group-count in
+    let valid = c .before .before .before .before .path-valid in
+    let child = c .before .before .type-declared in
+    sub-meets (schemaOf (s .schema .now)) (s .above) (rowIs (s .c)) (groups .result) (groups .ensures) (valid .ensures)
+    (not-false (valid .result) (c .before .before .before .if1 .left))
+    (child .ensures)
+    (not-false (child .result) (c .before .if2 .left))
+    (search needs)
+    (search needs)
+    (c .before .before .before .before .before .before .before .pre .1 .1 .1 .1)
+    (c .if3 .taken)
+
+returns-4 : tie.Need-returns-4
+returns-4 c =
     let s = c .before .before .before .before .before .before .before .before .args in
     let groups = c .before .before .before .before .before .before .group-count in
     let valid = c .before .before .before .before .before .path-valid in
     let child = c .before .before .before .type-declared in
-    sub-meets (schemaOf (s .schema .now)) (s .above) (rowIs (s .c)) (groups .result) (groups .ensures) (valid .ensures)
+    sub-group (schemaOf (s .schema .now)) (s .above) (rowIs (s .c)) (groups .result) (groups .ensures) (valid .ensures)
     (not-false (valid .result) (c .before .before .before .before .if1 .left))
     (child .ensures)
     (not-false (child .result) (c .before .before .if2 .left))
     (search needs)
     (search needs)
-    (c .before .rows-meet .ensures)
-    (c .if3 .taken)
-
-returns-4 : tie.Need-returns-4
-returns-4 c =
-    let s = c .before .before .before .before .before .before .before .before .before .args in
-    let groups = c .before .before .before .before .before .before .before .group-count in
-    let valid = c .before .before .before .before .before .before .path-valid in
-    let child = c .before .before .before .before .type-declared in
-    sub-group (schemaOf (s .schema .now)) (s .above) (rowIs (s .c)) (groups .result) (groups .ensures) (valid .ensures)
-    (not-false (valid .result) (c .before .before .before .before .before .if1 .left))
-    (child .ensures)
-    (not-false (child .result) (c .before .before .before .if2 .left))
-    (search needs)
-    (search needs)
-    (c .before .before .rows-meet .ensures)
+    (c .before .before .before .before .before .before .before .before .pre .1 .1 .1 .1)
     (c .before .if3 .left)
     (c .has-group .ensures)
 
@@ -66,7 +66,6 @@ sub-element-rule-spec =
     returns
     (λ c κs. search needs)
     returns-2
-    (λ c κs. search needs)
     returns-3
     (λ c κs. search needs)
     returns-4)

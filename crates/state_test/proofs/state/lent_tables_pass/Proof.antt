@@ -19,7 +19,7 @@ state-valid-requires c κs =
     let a = c .before .before .before .before .before .before .before .args in
     let t = tested-tables (length (a .deck .now)) (a .schema .now) (a .elements .now) (a .model .now) (a .log .now) (passed (c .before .tables-pass .ensures) (c .if1 .left)) in
     let s = t .schemaTested in
-    (s .good, (paths-filled (a .schema .now) s, (files-low 0 (schemaOf (a .schema .now) .files) (s .files), (t .elementsTested .good, (trees-low _ (elementsOf (a .elements .now) .trees) (t .elementsTested .trees), (t .modelTested .good, (t .logTested .good, t .same)))))))
+    (s .good, (paths-filled (a .schema .now) s, (files-low 0 (schemaOf (a .schema .now) .files) (s .files), (t .elementsTested .good, (t .elementsTested .depths, (trees-low _ (elementsOf (a .elements .now) .trees) (t .elementsTested .trees), (t .modelTested .good, (t .logTested .good, t .same))))))))
 
 returns-2 : tie.Need-returns-2
 returns-2 c =

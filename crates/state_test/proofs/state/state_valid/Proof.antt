@@ -25,7 +25,7 @@ returns c =
 files-declared-requires : tie.Need-files-declared-requires
 files-declared-requires c κs =
     let g = c .before .before .before .before .before .before .pre in
-    (g .0, (g .1 .1 .0, (g .1 .1 .1 .0, (g .1 .1 .1 .1 .0, (g .1 .1 .1 .1 .1 .0, g .1 .1 .1 .1 .1 .1 .0)))))
+    (g .0, (g .1 .1 .0, (g .1 .1 .1 .0, (g .1 .1 .1 .1 .1 .0, (g .1 .1 .1 .1 .1 .1 .0, g .1 .1 .1 .1 .1 .1 .1 .0)))))
 
 returns-2 : tie.Need-returns-2
 returns-2 c =
@@ -37,16 +37,16 @@ returns-3 c =
     let a = c .before .before .before .before .before .before .before .before .before .before .args in
     λ deck. state-stop-3 (fixedIn deck (a .schema .now) (a .elements .now)) (stateIn (a .model .now) (a .log .now)) (schema (c .before .before .before .before)) (files (c .before .before) deck) (failed (c .before .roots-valid .ensures deck (a .schema .now)) (c .if3 .taken))
 
-lists-typed-requires : tie.Need-lists-typed-requires
-lists-typed-requires c κs =
+lists-valid-requires : tie.Need-lists-valid-requires
+lists-valid-requires c κs =
     let g = c .before .before .before .before .before .before .before .before .before .before .pre in
-    (g .0, (g .1 .1 .1 .0, (g .1 .1 .1 .1 .1 .0, g .1 .1 .1 .1 .1 .1 .1)))
+    (g .0, (g .1 .1 .1 .0, (g .1 .1 .1 .1 .0, (g .1 .1 .1 .1 .1 .1 .0, g .1 .1 .1 .1 .1 .1 .1 .1))))
 
 returns-4 : tie.Need-returns-4
 returns-4 c =
     let a = c .before .before .before .before .before .before .before .before .before .before .before .args in
-    λ deck. state-last (fixedIn deck (a .schema .now) (a .elements .now)) (stateIn (a .model .now) (a .log .now)) (schema (c .before .before .before .before .before)) (files (c .before .before .before) deck) (passed (c .before .before .roots-valid .ensures deck (a .schema .now)) (c .before .if3 .left)) (c .lists-typed .ensures deck)
+    λ deck. state-last (fixedIn deck (a .schema .now) (a .elements .now)) (stateIn (a .model .now) (a .log .now)) (schema (c .before .before .before .before .before)) (files (c .before .before .before) deck) (passed (c .before .before .roots-valid .ensures deck (a .schema .now)) (c .before .if3 .left)) (c .lists-valid .ensures deck)
 
 pub state-valid-spec : {M : Type 1} → statement M
 state-valid-spec =
-    tie.close (tie.spec (λ c κs. search needs) returns files-declared-requires returns-2 (λ c κs. search needs) returns-3 lists-typed-requires returns-4)
+    tie.close (tie.spec (λ c κs. search needs) returns files-declared-requires returns-2 (λ c κs. search needs) returns-3 lists-valid-requires returns-4)

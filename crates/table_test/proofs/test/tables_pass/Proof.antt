@@ -2,7 +2,7 @@
 use Rattle.table_test.proofs.Laws.RowsTest.{every-fails}
 use Rattle.table_test.proofs.Laws.ElementsTest.{elements-length, few-texts}
 use Rattle.table_test.proofs.Laws.SchemaTest.{schema-length}
-use Rattle.table_test.proofs.Laws.TablesTest.{model-length, joined}
+use Rattle.table_test.proofs.Laws.TablesTest.{model-length}
 use Rattle.table_test.specs.SchemaTest.{isSchemaTable}
 use Rattle.table_test.specs.ElementsTest.{isElementsTable}
 use Rattle.table_test.specs.ModelTest.{isModelTable}
@@ -70,16 +70,11 @@ returns-4 c = every-fails (tests (c .before .before .before .before .before .bef
 shared-slice-read-is-log-table : tie.Need-shared-slice-read-is-log-table
 shared-slice-read-is-log-table c = let s = elements-size (c .before .before .before .before .before .before .before) in search needs
 
-depths-pass-requires : tie.Need-depths-pass-requires
-depths-pass-requires c κs =
-    let a = c .before .before .before .before .before .before .before .before .before .before .before .before .before .before .before .before .before .before .args in
-    joined (getD (a .schema .now) 0 0) (length (a .deck .now)) (a .elements .now) (elements-passed (c .before .before .before .before .before .before .before .before)) (a .model .now) (model-passed (c .before .before .before .before .before)) (omega arith)
-
 returns-5 : tie.Need-returns-5
 unfolding tablesPass
 returns-5 c =
-    let same = eq-eqb (getD (c .before .before .before .before .before .before .before .before .before .before .before .before .before .before .before .before .before .before .before .args .model .now) 0 0) (getD (c .before .before .before .before .before .before .before .before .before .before .before .before .before .before .before .before .before .before .before .args .elements .now) 0 0) (omega arith) in
-    rw (schema-passed (c .before .before .before .before .before .before .before .before .before .before .before .before), elements-passed (c .before .before .before .before .before .before .before .before .before), model-passed (c .before .before .before .before .before .before), same, c .before .is-log-table .ensures, c .depths-pass .ensures)
+    let same = eq-eqb (getD (c .before .before .before .before .before .before .before .before .before .before .before .before .before .before .before .before .before .before .args .model .now) 0 0) (getD (c .before .before .before .before .before .before .before .before .before .before .before .before .before .before .before .before .before .before .args .elements .now) 0 0) (omega arith) in
+    rw (schema-passed (c .before .before .before .before .before .before .before .before .before .before .before), elements-passed (c .before .before .before .before .before .before .before .before), model-passed (c .before .before .before .before .before), same, c .is-log-table .ensures)
 
 pub tables-pass-spec : {M : Type 1} → statement M
 tables-pass-spec =
@@ -98,5 +93,4 @@ tables-pass-spec =
     returns-4
     shared-slice-read-is-log-table
     (λ c κs. search needs)
-    depths-pass-requires
     returns-5)
