@@ -8,15 +8,15 @@ use native.Mathlib.Omega.{arith}
 use borrow.Author.Tests.{eqb-true, eqb-false, eq-eqb, ne-eqb, le-leb, lt-leb}
 use lib.Bits.{bitOr, or-add-and, and-le-r}
 use lib.Dec.{eqb, leb}
-use lib.ListN.{length, set, getD, drop, drop-of-length-le, length-set}
-use lib.Seq.{drop-cons, drop-length, getD-set-same, getD-set-other}
+use lib.ListN.{length, set, getD, take, drop, length-set, take-append-drop}
+use lib.Seq.{drop-cons, drop-drop, drop-length, getD-set-same, getD-set-other}
 use Rattle.tables.specs.Limits.{elementLimit, itemLimit}
 use Rattle.tables.specs.Lists.{anyOf, allOf}
 use Rattle.tables.specs.Records.{Item, child, text}
 use Rattle.tables.specs.ModelTable.{cellItem}
 use Rattle.table_test.specs.ModelTest.{isZero, rising, sameChild, onceIn}
 use Rattle.tables.proofs.Laws.ModelTable.{cellItem-child, cellItem-text}
-use Rattle.tables.proofs.Laws.Scans.{drop-next, drop-end, all-end, and-all}
+use Rattle.tables.proofs.Laws.Scans.{drop-next, drop-end, all-end, all-append, and-all}
 
 -- ---- cells that are all zero
 
@@ -32,6 +32,19 @@ module _ (x : ℕ) (s : List ℕ) (j : ℕ) where
 
   pub zeros-end : length s ≤ j → eqb x 0 ≡ (eqb x 0 && allOf isZero (drop j s))
   zeros-end h = rw (all-end isZero s j h) (sym (and-true (eqb x 0)))
+
+-- x has the bits of all cells before j, r those from j up to a place behind them
+pub zeros-part : (x r : ℕ) (s : List ℕ) (j to : ℕ) → j ≤ to → eqb r 0 ≡ allOf isZero (take (to - j) (drop j s))
+    → (eqb (bitOr x r) 0 && allOf isZero (drop to s)) ≡ (eqb x 0 && allOf isZero (drop j s))
+zeros-part x r s j to h e =
+    let here = take (to - j) (drop j s) in
+    let z : j + (to - j) ≡ to = omega arith in
+    let parts : allOf isZero (drop j s) ≡ (allOf isZero here && allOf isZero (drop to s)) =
+    ap (allOf isZero) (sym (take-append-drop (to - j) (drop j s))) ∙ all-append isZero here (drop (to - j) (drop j s))
+    ∙ ap (λ (l : List ℕ). allOf isZero here && allOf isZero l) (drop-drop (to - j) j s ∙ ap (λ (k : ℕ). drop k s) z) in
+    ap (λ (b : Bool). b && allOf isZero (drop to s)) (or-zero x r ∙ ap (λ (b : Bool). eqb x 0 && b) e)
+    ∙ and-assoc (eqb x 0) (allOf isZero here) (allOf isZero (drop to s))
+    ∙ ap (λ (b : Bool). eqb x 0 && b) (sym parts)
 
 -- ---- entries that do not fall
 

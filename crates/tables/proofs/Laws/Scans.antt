@@ -104,6 +104,15 @@ module _ {A : Type 0} (t : A → Bool) where
   passes-each [] h = tt
   passes-each (a ∷ l) h = (all-head a l h, passes-each l (all-tail a l h))
 
+pub all-append : {A : Type 0} (t : A → Bool) (l r : List A) → allOf t (l ++ r) ≡ (allOf t l && allOf t r)
+unfolding allOf
+all-append t [] r = refl
+all-append t (a ∷ l) r = by (t a) (allOf t (l ++ r)) (allOf t l) (all-append t l r)
+  where
+    by : (b p q : Bool) → p ≡ (q && allOf t r) → elim b [ true ↦ p | false ↦ false ] ≡ (elim b [ true ↦ q | false ↦ false ] && allOf t r)
+    by true p q e = e
+    by false p q e = refl
+
 pub all-map : {A B : Type 0} (t : B → Bool) (f : A → B) (l : List A) → allOf t (map f l) ≡ allOf (λ (a : A). t (f a)) l
 unfolding allOf
 all-map t f [] = refl
