@@ -44,14 +44,15 @@ fn without_line_comments(text: &str) -> String {
         .join("\n")
 }
 
-/// The Rattle source, each file without its comments.
+/// The Rattle source, each file without its comments: the calls, and their answers as numbers.
 fn rattle_files() -> Vec<String> {
-    let folder = "crates/zapelaritz_c/src";
     let mut files = Vec::new();
-    for entry in fs::read_dir(repository(folder)).unwrap() {
-        let name = entry.unwrap().file_name().into_string().unwrap();
-        assert!(name.ends_with(".rt"), "{name}");
-        files.push(without_line_comments(&text(&format!("{folder}/{name}"))));
+    for folder in ["crates/zapelaritz_c/src", "crates/answer_numbers/src"] {
+        for entry in fs::read_dir(repository(folder)).unwrap() {
+            let name = entry.unwrap().file_name().into_string().unwrap();
+            assert!(name.ends_with(".rt"), "{name}");
+            files.push(without_line_comments(&text(&format!("{folder}/{name}"))));
+        }
     }
     assert!(!files.is_empty());
     files

@@ -1,8 +1,8 @@
 // Words, the fields of a line, each behind a comma, and the answers of the calls.
-use changes::refusals::Refusal;
 use merge::calls::MergeAnswer;
 use merge::calls::RangeAnswer;
 use merge::calls::RollbackAnswer;
+use merge_log::refusals::Refusal;
 use tables::numbers::Element;
 
 pub fn word(s: &[u8]) {

@@ -1,3 +1,2 @@
-pub mod Settle
 pub mod Restrictions
 pub mod Level

@@ -1,13 +1,13 @@
 // Level and Pairs, which call each other, one depth lower each time.
-use crate::settle::extend_pair;
-use crate::settle::files_of_pair;
-use crate::settle::settle;
-use changes::import::import_new_items;
-use changes::log::restrict;
-use changes::refusals::Outcome;
-use changes::refusals::Refusal;
+use imports::import::import_new_items;
+use merge_log::log::restrict;
+use merge_log::refusals::Outcome;
+use merge_log::refusals::Refusal;
 use pairing::plan::Planned;
 use pairing::walk::plan_level;
+use pairs::settle::extend_pair;
+use pairs::settle::files_of_pair;
+use pairs::settle::settle;
 use schema_calls::files::least_version;
 use tables::file_set::FileSet;
 use tables::limits::ITEM_LIMIT;
@@ -25,20 +25,20 @@ ghost use Prim.Native.Nat.{ℕ, _+_, _*_, _<_, _≤_};
 ghost use lib.ListN.{length};
 ghost use Rattle.tables.specs.Cells.{Each};
 ghost use Rattle.tables.specs.ElementsTable.{elementsOf, GoodElements};
-ghost use Rattle.tables.specs.Limits.{fileLimit, versionLimit};
+ghost use Rattle.tables.specs.Limits.{fileLimit};
 ghost use Rattle.tables.specs.LogTable.{GoodLog};
 ghost use Rattle.tables.specs.ModelTable.{countOf, modelOf, GoodModel};
 ghost use Rattle.tables.specs.Records.{listOf};
-ghost use Rattle.tables.specs.SchemaTable.{schemaOf};
+ghost use Rattle.tables.specs.SchemaTable.{schemaOf, GoodSchema};
 ghost use Rattle.tables.specs.SetCells.{setIs};
 ghost use Rattle.table_test.specs.Fits.{GoodFixed, LogFits, StateOver, KeepsState};
 ghost use Rattle.table_test.specs.SchemaTest.{TestedSchema};
-ghost use Rattle.deck.specs.Schema.{versionOf};
+ghost use Rattle.deck.specs.Schema.{versionOf, leastVersion};
 ghost use Rattle.state_test.specs.StateTest.{fixedIn, stateIn};
-ghost use Rattle.merge_rules.specs.Level.{restrictElements, mergeElement, mergeSubElements};
+ghost use Rattle.merge_rules.specs.Level.{filesOfPair, restrictElements, mergeSubElements, levelVersion, mergeElement};
 ghost use Rattle.merge_rules.specs.Pairing.{childrenOf};
 ghost use Rattle.pairing.specs.Plans.{planIn, RowsIn};
-ghost use Rattle.changes.specs.Answers.{outcomeIs};
+ghost use Rattle.merge_log.specs.Answers.{outcomeIs};
 ghost use Rattle.level.specs.Level.{restrictNew, applyPlan, mergePair, Bare};
 
 // Cells for the plan of any level.
@@ -169,6 +169,20 @@ fn apply_plan(
     r
 }
 
+// The version of a pair's level: A without a set has the files of the level above, and so its version.
+fn pair_version(schema: &[u64], model: &[u64], version: u64, v: u64, a: Element) -> u64
+    requires { ⌜ GoodSchema (now schema) ⌝ }
+    requires { ⌜ GoodModel (now model) ⌝ }
+    requires { ⌜ a .0 < countOf (modelOf (now model)) ⌝ }
+    ensures { λ r. ⌜ ((files : ℕ) → v ≡ leastVersion (schemaOf (now (schema .entry))) files version → r ≡ leastVersion (schemaOf (now (schema .entry))) (filesOfPair files (modelOf (now (model .entry))) (a .0)) version) ⌝ }
+{
+    let own = set_of(model, a);
+    if own.is_empty() {
+        return v;
+    }
+    least_version(schema, own, version)
+}
+
 // Level with a scratch slice of its own: at the root, and where the plan of a pair has no room in the slice that it was handed.
 pub fn merge_apart(
     deck: &[u8],
@@ -192,6 +206,7 @@ pub fn merge_apart(
     ensures { λ r. ⌜ outcomeIs r (stateIn (now (model .exit)) (now (log .exit))) ≡ mergeElement depth (fixedIn (now (deck .entry)) (now (schema .entry)) (now (elements .entry))) (f .0) (setIs files) (a .0) (b .0) (stateIn (now (model .entry)) (now (log .entry))) ⌝ }
     ensures { λ _. ⌜ KeepsState (now (model .entry)) (now (log .entry)) (now (model .exit)) (now (log .exit)) ⌝ }
 {
+    let v = least_version(schema, files, version);
     let mut work = [0u16; WORK_SIZE];
     merge_element(
         deck,
@@ -202,6 +217,7 @@ pub fn merge_apart(
         &mut work,
         f,
         version,
+        v,
         files,
         a,
         b,
@@ -209,7 +225,7 @@ pub fn merge_apart(
     )
 }
 
-// Level: b is merged into a, by its plan: restrictions and imports, then pairs. At depth 0, where no listed element is, refusal 6.
+// Level: b is merged into a, by its plan: restrictions and imports, then pairs. At depth 0, where no listed element is, refusal 6. The usual answer of the pairs, Done, is tested for, so that it is not copied.
 fn merge_element(
     deck: &[u8],
     schema: &[u64],
@@ -219,6 +235,7 @@ fn merge_element(
     work: &mut [u16],
     f: FileNumber,
     version: u64,
+    v: u64,
     files: FileSet,
     a: Element,
     b: Element,
@@ -228,6 +245,7 @@ fn merge_element(
     requires { ⌜ StateOver (now elements) (now model) (now log) ⌝ }
     requires { ⌜ f .0 < fileLimit ⌝ }
     requires { ⌜ version ≡ versionOf (schemaOf (now schema)) (f .0) ⌝ }
+    requires { ⌜ v ≡ levelVersion (fixedIn (now deck) (now schema) (now elements)) (f .0) (setIs files) ⌝ }
     requires { ⌜ a .0 < length (elementsOf (now elements) .names) ⌝ }
     requires { ⌜ b .0 < length (elementsOf (now elements) .names) ⌝ }
     requires { ⌜ 2 * length (listOf (modelOf (now model)) (a .0)) + 5 * length (listOf (modelOf (now model)) (b .0)) ≤ length (now work) ⌝ }
@@ -237,7 +255,6 @@ fn merge_element(
     if depth == 0 {
         return Outcome::Refused(Refusal::Unmergeable(a));
     }
-    let v = least_version(schema, files, version);
     let planned = plan_level(deck, schema, elements, model, v, a, b, work);
     match planned {
         Planned::Rows(na, ni) => {
@@ -255,7 +272,7 @@ fn merge_element(
                 a,
             );
             if let Outcome::Done = r {
-                return merge_sub_elements(
+                let q = merge_sub_elements(
                     deck,
                     schema,
                     elements,
@@ -270,6 +287,10 @@ fn merge_element(
                     a,
                     depth - 1,
                 );
+                if let Outcome::Done = q {
+                    return Outcome::Done;
+                }
+                return q;
             }
             r
         }
@@ -298,7 +319,7 @@ fn merge_sub_elements(
     requires { ⌜ StateOver (now elements) (now model) (now log) ⌝ }
     requires { ⌜ f .0 < fileLimit ⌝ }
     requires { ⌜ version ≡ versionOf (schemaOf (now schema)) (f .0) ⌝ }
-    requires { ⌜ v < versionLimit ⌝ }
+    requires { ⌜ v ≡ levelVersion (fixedIn (now deck) (now schema) (now elements)) (f .0) (setIs files) ⌝ }
     requires { ⌜ p .0 < length (elementsOf (now elements) .names) ⌝ }
     requires { ⌜ RowsIn (length (elementsOf (now elements) .names)) (now work) na 0 ⌝ }
     ensures { λ r. ⌜ outcomeIs r (stateIn (now (model .exit)) (now (log .exit))) ≡ mergeSubElements (mergeElement depth (fixedIn (now (deck .entry)) (now (schema .entry)) (now (elements .entry))) (f .0)) (fixedIn (now (deck .entry)) (now (schema .entry)) (now (elements .entry))) (f .0) v (p .0) (setIs files) (planIn na 0 (now (work .entry)) .pairs) (stateIn (now (model .entry)) (now (log .entry))) ⌝ }
@@ -361,7 +382,7 @@ fn merge_pair(
     requires { ⌜ StateOver (now elements) (now model) (now log) ⌝ }
     requires { ⌜ f .0 < fileLimit ⌝ }
     requires { ⌜ version ≡ versionOf (schemaOf (now schema)) (f .0) ⌝ }
-    requires { ⌜ v < versionLimit ⌝ }
+    requires { ⌜ v ≡ levelVersion (fixedIn (now deck) (now schema) (now elements)) (f .0) (setIs files) ⌝ }
     requires { ⌜ p .0 < length (elementsOf (now elements) .names) ⌝ }
     requires { ⌜ a .0 < length (elementsOf (now elements) .names) ⌝ }
     requires { ⌜ b .0 < length (elementsOf (now elements) .names) ⌝ }
@@ -374,6 +395,7 @@ fn merge_pair(
     let own = files_of_pair(model, files, a);
     let mark = log_length(log);
     if level_room(model, a, b) <= work.len() {
+        let own_version = pair_version(schema, model, version, v, a);
         let below = merge_element(
             deck,
             schema,
@@ -383,6 +405,7 @@ fn merge_pair(
             work,
             f,
             version,
+            own_version,
             own,
             a,
             b,

@@ -1,3 +1,2 @@
-// Level and Pairs on the lent tables, and what becomes of a pair.
+// Level and Pairs on the lent tables.
 pub mod level;
-pub mod settle;

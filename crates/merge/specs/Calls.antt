@@ -9,7 +9,7 @@ use Rattle.merge_rules.specs.Calls as rules
 use Rattle.merge_rules.specs.Calls.{rangeRefused, merged, mergeRefused, takenOff, rollbackRefused, countsOf, entriesAbove}
 use Rattle.merge_rules.specs.Refusals.{Outcome, done, conflict, refused, unmergeable}
 use Rattle.merge_rules.specs.TableCalls.{CallAnswer, badTables, answered, CallResult, encodedResult}
-use Rattle.changes.specs.Answers.{refusalIs}
+use Rattle.merge_log.specs.Answers.{refusalIs}
 use Rattle.merge.specs.declared.calls.RangeAnswer.{RangeAnswer}
 use Rattle.merge.specs.declared.calls.RangeAnswer.the-variants.{Places, Refused, BadTables}
 use Rattle.merge.specs.declared.calls.MergeAnswer.{MergeAnswer}

@@ -4,12 +4,12 @@ use crate::counts::counts_above;
 use crate::tree::Waiting;
 use crate::tree::merge_tree;
 use crate::tree::waiting_tree;
-use changes::log::is_mark;
-use changes::log::rollback_merge;
-use changes::range::Range;
-use changes::range::calc_element_insert_range;
-use changes::refusals::Outcome;
-use changes::refusals::Refusal;
+use insert_range::range::Range;
+use insert_range::range::calc_element_insert_range;
+use merge_log::log::is_mark;
+use merge_log::log::rollback_merge;
+use merge_log::refusals::Outcome;
+use merge_log::refusals::Refusal;
 use state_test::state::lent_tables_pass;
 use tables::elements::element_count;
 use tables::elements::element_type;
@@ -31,9 +31,9 @@ ghost use Rattle.table_test.specs.Fits.{GoodFixed, StateOver};
 ghost use Rattle.state_test.specs.StateTest.{fixedIn, stateIn};
 ghost use Rattle.merge_rules.specs.Calls.{rangeAnswer, mergedFrom, mergeTree};
 ghost use Rattle.merge_rules.specs.TableCalls.{answered, rangeCall, mergeCall, rollbackCall};
-ghost use Rattle.changes.specs.Answers.{outcomeIs};
+ghost use Rattle.merge_log.specs.Answers.{outcomeIs};
 ghost use Rattle.merge.specs.Calls.{rangeAnswerIs, mergeResult, rollbackResult, encodedMerge, concluded};
-ghost use Rattle.changes.specs.Range.{rangeIs};
+ghost use Rattle.insert_range.specs.Range.{rangeIs};
 
 // The first and last place; a refusal; refusal 0.
 pub enum RangeAnswer {

@@ -1,7 +1,7 @@
 // The waiting tree of a file, and its merge into the model.
-use changes::log::extend;
-use changes::refusals::Outcome;
 use level::level::merge_apart;
+use merge_log::log::extend;
+use merge_log::refusals::Outcome;
 use schema_calls::files::version_of;
 use tables::elements::tree_count;
 use tables::elements::tree_file;
@@ -26,7 +26,7 @@ ghost use Rattle.table_test.specs.ElementsTest.{TreeIn};
 ghost use Rattle.table_test.specs.Fits.{GoodFixed, StateOver, KeepsState};
 ghost use Rattle.state_test.specs.StateTest.{fixedIn, stateIn};
 ghost use Rattle.merge_rules.specs.Calls.{mergeTree};
-ghost use Rattle.changes.specs.Answers.{outcomeIs};
+ghost use Rattle.merge_log.specs.Answers.{outcomeIs};
 ghost use Rattle.merge.specs.Calls.{FindsTree};
 
 // The root of a file's tree.

@@ -2,13 +2,13 @@
 // the answer and how often the merge was accepted. The number before the latest is the file; both are 1 at first. The deck is loaded once, and model and
 // log are put back before each merge, so that a file that does not wait measures this and the test of the tables alone. Time is taken from
 // outside.
-use changes::refusals::Refusal;
 use deck::fields::Num;
 use deck::fields::number;
 use load::load::load;
 use merge::calls::MergeAnswer;
 use merge::calls::copy;
 use merge::calls::merge;
+use merge_log::refusals::Refusal;
 use tables::elements::ELEMENTS_SIZE;
 use tables::limits::DECK_LIMIT;
 use tables::log::LOG_SIZE;

@@ -1,11 +1,11 @@
 // Lines of answers, behind what a buffer holds.
-use crate::refusals::Optional;
-use crate::refusals::refusal_fields;
-use changes::refusals::Refusal;
 use merge::calls::MergeAnswer;
 use merge::calls::RangeAnswer;
 use merge::calls::RollbackAnswer;
 use merge::counts::Counts;
+use merge_log::refusals::Optional;
+use merge_log::refusals::Refusal;
+use merge_log::refusals::refusal_fields;
 use printing::buffer::Written;
 use printing::buffer::append_byte;
 use printing::buffer::append_bytes;
@@ -18,10 +18,10 @@ ghost use Rattle.merge_rules.specs.Calls.{merged, mergeRefused, rangeRefused, r
 ghost use Rattle.merge_rules.specs.CallLists.{rangeLine};
 ghost use Rattle.merge_rules.specs.Program.{decimalOf, orDash, lineOf, answerLine, refusedDeck};
 ghost use Rattle.merge_rules.specs.TableCalls.{badTables, answered};
-ghost use Rattle.changes.specs.Answers.{refusalIs};
+ghost use Rattle.merge_log.specs.Answers.{refusalIs};
 ghost use Rattle.merge.specs.Calls.{countsIs, mergeAnswerIs, rangeAnswerIs, rollbackAnswerIs};
 ghost use Rattle.printing.specs.Buffers.{bufferIs, Appends};
-ghost use Rattle.output.specs.Refusals.{optionalIs};
+ghost use Rattle.merge_log.specs.Refusals.{optionalIs};
 ghost use Rattle.output.specs.Answers.{refusalFields, mergeText, rollbackText, rangeText};
 
 // A word with its comma and a number with its own: the first two fields of a line.

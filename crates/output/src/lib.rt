@@ -2,6 +2,5 @@
 mod answers;
 mod entries;
 pub mod print;
-pub mod refusals;
 mod reply;
 pub mod requests;

@@ -1,6 +1,6 @@
 // Words, and the fields of a line, each behind a comma.
-use changes::refusals::Refusal;
 use merge::calls::RangeAnswer;
+use merge_log::refusals::Refusal;
 
 pub fn word(s: &[u8]) {
     io::write_all(libc::STDOUT_FILENO, s);

@@ -1,2 +1,1 @@
 pub mod NumberedCalls
-pub mod Numbers

@@ -4,7 +4,6 @@ use mathlib.Core.List.{List}
 use Prim.Native.Nat.{ℕ}
 use lib.Dec.{eqb}
 use lib.ListN.{length}
-use Rattle.tables.specs.LogTable.{logOf}
 use Rattle.tables.specs.ModelTable.{modelOf}
 use Rattle.tables.specs.Records.{Element, Name, FileNumber, Version}
 use Rattle.load.specs.LoadCall.{Tables, loadCall}
@@ -12,7 +11,14 @@ use Rattle.state_test.specs.StateTest.{lentTablesPass, fixedIn}
 use Rattle.merge_rules.specs.Program.{modelLines}
 use Rattle.merge_rules.specs.TableCalls.{mergeCall, rangeCall, rollbackCall}
 use Rattle.printing.specs.Buffers.{printFrom}
-use Rattle.zapelaritz_c.specs.Numbers.{answerSize, Numbered, accept, refuse, notMade, loadNumbers, mergeNumbers, rangeNumbers, rollbackNumbers}
+use Rattle.answer_numbers.specs.Numbers.{Numbered, numbered, accept, refuse, loadNumbers, mergeNumbers, rangeNumbers, rollbackNumbers, markNumbers}
+
+abbrev pub answerSize : ℕ
+answerSize = 3
+
+-- the lent answer has another size
+abbrev pub notMade : List ℕ → Numbered
+notMade answer = numbered 2 answer
 
 -- what the call leaves, or what stood
 abbrev pub ifMade : {A : Type 0} → List ℕ → A → A → A
@@ -54,11 +60,6 @@ numberedRollback deck schema elements model log mark answer =
 unfoldable pub numberedRange : List ℕ → List ℕ → List ℕ → List ℕ → List ℕ → Element → Name → Version → List ℕ → Numbered
 numberedRange deck schema elements model log e name v answer =
     ifMade answer (rangeNumbers (rangeCall deck schema elements model log e name v)) (notMade answer)
-
--- the mark of now is the log's length
-unfoldable pub markNumbers : List ℕ → List ℕ → List ℕ → List ℕ → List ℕ → Numbered
-markNumbers deck schema elements model log =
-    elim (lentTablesPass deck schema elements model log) [ true ↦ accept (length (logOf log)) 0 0 | false ↦ refuse 0 0 0 ]
 
 unfoldable pub numberedMark : List ℕ → List ℕ → List ℕ → List ℕ → List ℕ → List ℕ → Numbered
 numberedMark deck schema elements model log answer = ifMade answer (markNumbers deck schema elements model log) (notMade answer)

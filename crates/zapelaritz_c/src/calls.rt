@@ -1,11 +1,11 @@
 // Load, merge, range and rollback: the answer's code is the result, its numbers are written into the lent answer.
-use crate::numbers::NOT_MADE;
-use crate::numbers::load_numbers;
-use crate::numbers::mark_numbers;
-use crate::numbers::merge_numbers;
-use crate::numbers::range_numbers;
-use crate::numbers::rollback_numbers;
 use crate::sizes::ANSWER_SIZE;
+use crate::sizes::NOT_MADE;
+use answer_numbers::numbers::load_numbers;
+use answer_numbers::numbers::mark_numbers;
+use answer_numbers::numbers::merge_numbers;
+use answer_numbers::numbers::range_numbers;
+use answer_numbers::numbers::rollback_numbers;
 use load::load::load;
 use merge::calls::merge;
 use merge::calls::range;
@@ -13,7 +13,7 @@ use merge::calls::rollback;
 use tables::cells::put3;
 ghost use mathlib.Core.Path.{_≡_};
 ghost use Rattle.load.specs.LoadCall.{tablesOf};
-ghost use Rattle.zapelaritz_c.specs.Numbers.{numbered};
+ghost use Rattle.answer_numbers.specs.Numbers.{numbered};
 ghost use Rattle.zapelaritz_c.specs.NumberedCalls.{numberedLoad, numberedMerge, numberedRange, numberedRollback, numberedMark};
 
 #[no_mangle]

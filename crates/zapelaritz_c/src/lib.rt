@@ -1,5 +1,4 @@
 // The calls for C and Rust, on numbers and slices alone. No function holds state.
 mod calls;
-mod numbers;
 mod print;
 mod sizes;

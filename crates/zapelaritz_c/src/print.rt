@@ -1,9 +1,9 @@
 // The model, and what the program prints, in parts: each call writes the bytes from `from` on, as many as there is room for.
-use crate::numbers::NOT_MADE;
-use crate::numbers::Numbers;
-use crate::numbers::accepted;
-use crate::numbers::refused;
 use crate::sizes::ANSWER_SIZE;
+use crate::sizes::NOT_MADE;
+use answer_numbers::numbers::Numbers;
+use answer_numbers::numbers::accepted;
+use answer_numbers::numbers::refused;
 use output::print::print_calls;
 use output::print::print_output;
 use printing::buffer::Written;
@@ -14,7 +14,7 @@ ghost use mathlib.Core.Path.{_≡_};
 ghost use Rattle.merge_rules.specs.CallLists.{callsOutput};
 ghost use Rattle.merge_rules.specs.Program.{output};
 ghost use Rattle.printing.specs.Buffers.{printFrom};
-ghost use Rattle.zapelaritz_c.specs.Numbers.{numbered, numbersIs};
+ghost use Rattle.answer_numbers.specs.Numbers.{numbered, numbersIs};
 ghost use Rattle.zapelaritz_c.specs.NumberedCalls.{modelPrinted, numberedModel};
 
 fn print_model(

@@ -10,9 +10,12 @@ ghost use Rattle.tables.specs.Limits.{deckLimit};
 ghost use Rattle.tables.specs.LogTable.{logSize};
 ghost use Rattle.tables.specs.ModelTable.{modelSize};
 ghost use Rattle.tables.specs.SchemaTable.{schemaSize};
-ghost use Rattle.zapelaritz_c.specs.Numbers.{answerSize};
+ghost use Rattle.zapelaritz_c.specs.NumberedCalls.{answerSize};
 
 pub const ANSWER_SIZE: usize = 3;
+
+// The code where the lent answer has another size.
+pub const NOT_MADE: u64 = 2;
 
 // The bytes of the longest deck that loads.
 #[no_mangle]

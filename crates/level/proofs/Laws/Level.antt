@@ -11,7 +11,7 @@ use lib.Seq.{getD-take}
 use Rattle.tables.specs.Limits.{itemLimit, versionLimit}
 use Rattle.tables.specs.ElementsTable.{elementsOf}
 use Rattle.tables.specs.ModelTable.{itemIs, countOf, modelOf, GoodModel}
-use Rattle.tables.specs.Records.{Element, FileNumber, FileSet, Version, Item, child, text, State, Fixed, listOf}
+use Rattle.tables.specs.Records.{Element, FileNumber, FileSet, Version, Item, child, text, Model, State, Fixed, listOf}
 use Rattle.tables.specs.declared.model.Item as program
 use Rattle.tables.specs.declared.model.Item.the-variants.{Text as TextItem}
 use Rattle.tables.specs.SchemaTable.{schemaOf}
@@ -31,13 +31,13 @@ use Rattle.pairing.proofs.Laws.Spreads.{spread-here, spread-done}
 use Rattle.pairing.proofs.Laws.Rows.{mated, not-mated}
 use Rattle.pairing.proofs.Laws.Laying.{level-first, list-few}
 use Rattle.pairing.proofs.Laws.Walks.{noPlan}
-use Rattle.changes.specs.Answers.{outcomeIs}
-use Rattle.changes.specs.declared.refusals.Outcome as step
-use Rattle.changes.specs.declared.refusals.Outcome.the-variants.{Done}
-use Rattle.changes.proofs.refusals.Outcome.{the-type}
-use Rattle.changes.proofs.Laws.Imports.{then-done, then-stop}
+use Rattle.merge_log.specs.Answers.{outcomeIs}
+use Rattle.merge_log.specs.declared.refusals.Outcome as step
+use Rattle.merge_log.specs.declared.refusals.Outcome.the-variants.{Done}
+use Rattle.merge_log.proofs.refusals.Outcome.{the-type}
+use Rattle.imports.proofs.Laws.Imports.{then-done, then-stop}
 use Rattle.level.specs.Level.{applyPlan, mergeLevel, mergePair, Bare}
-use Rattle.level.proofs.Laws.Settle.{settle-done}
+use Rattle.pairs.proofs.Laws.Settle.{settle-done}
 
 -- ---- versions
 
@@ -45,13 +45,23 @@ module _ (schema : List ℕ) (f : FileNumber) (version : Version) (is : version 
   pub new-low : TestedSchema schema → version < versionLimit
   new-low t = rw is (version-low f schema t)
 
-  module _ (files : FileSet) (v : Version) (least : v ≡ leastVersion (schemaOf schema) files version) where
-    pub level-version-is : (deck elements : List ℕ) → v ≡ levelVersion (fixedIn deck schema elements) f files
+  module _ (deck elements : List ℕ) where
+    pub level-version-is : (files : FileSet) → leastVersion (schemaOf schema) files version ≡ levelVersion (fixedIn deck schema elements) f files
     unfolding levelVersion
-    level-version-is deck elements = least ∙ rw is
+    level-version-is files = rw is
 
-    pub level-version-low : TestedSchema schema → v < versionLimit
-    level-version-low t = omega (arith, new-low t, least-low (schemaOf schema) files version)
+    -- the version w of a pair's level, found by the level's version v
+    pub pair-version-is : (files : FileSet) (v : Version) → v ≡ levelVersion (fixedIn deck schema elements) f files
+        → (m : Model) (a : Element) (w : Version)
+        → ((k : FileSet) → v ≡ leastVersion (schemaOf schema) k version → w ≡ leastVersion (schemaOf schema) (filesOfPair k m a) version)
+        → (own : FileSet) → own ≡ filesOfPair files m a → w ≡ levelVersion (fixedIn deck schema elements) f own
+    pair-version-is files v of-level m a w least own e = least files (of-level ∙ sym (level-version-is files)) ∙ level-version-is (filesOfPair files m a) ∙ rw e
+
+pub level-version-low : (deck schema elements : List ℕ) (f : FileNumber) (files : FileSet) (v : Version) → v ≡ levelVersion (fixedIn deck schema elements) f files
+    → TestedSchema schema → v < versionLimit
+unfolding levelVersion
+level-version-low deck schema elements f files v e t =
+    omega (arith, version-low f schema t, least-low (schemaOf schema) files (versionOf (schemaOf schema) f))
 
 -- ---- a level by its plan
 

@@ -23,13 +23,13 @@ use Rattle.merge_rules.specs.Refusals.{Outcome, done, _>>=_}
 use Rattle.pairing.specs.Plans.{spread, restrictionIn, rowElement, rowValue, RowsIn}
 use Rattle.pairing.proofs.Laws.Spreads.{spread-here, spread-done}
 use Rattle.pairing.proofs.Laws.Rows.{restricted, not-restricted}
-use Rattle.changes.specs.Answers.{outcomeIs}
-use Rattle.changes.specs.declared.refusals.Outcome as step
-use Rattle.changes.specs.declared.refusals.Outcome.the-variants.{Done}
-use Rattle.changes.proofs.refusals.Outcome.{the-type}
-use Rattle.changes.proofs.Laws.Imports.{then-done, then-stop}
+use Rattle.merge_log.specs.Answers.{outcomeIs}
+use Rattle.merge_log.specs.declared.refusals.Outcome as step
+use Rattle.merge_log.specs.declared.refusals.Outcome.the-variants.{Done}
+use Rattle.merge_log.proofs.refusals.Outcome.{the-type}
+use Rattle.imports.proofs.Laws.Imports.{then-done, then-stop}
 use Rattle.level.specs.Level.{restrictNew, applyPlan}
-use Rattle.level.proofs.Laws.Settle.{set-empty}
+use Rattle.pairs.proofs.Laws.Settle.{set-empty}
 
 -- ---- one element
 

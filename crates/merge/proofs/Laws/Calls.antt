@@ -31,11 +31,11 @@ use Rattle.merge_rules.specs.Log.{rollbackMerge, isMark}
 use Rattle.merge_rules.specs.Range.{Range, calcElementInsertRange}
 use Rattle.merge_rules.specs.Refusals.{noSuchElement, charactersParent, Outcome}
 use Rattle.merge_rules.specs.TableCalls.{CallResult, badTables, answered, rangeCall, mergeCall, rollbackCall}
-use Rattle.changes.specs.Answers.{outcomeIs}
-use Rattle.changes.specs.declared.refusals.Refusal as refusal
-use Rattle.changes.specs.declared.refusals.Refusal.the-variants.{NotWaiting, Unmergeable, NoMark}
-use Rattle.changes.specs.declared.refusals.Outcome as step
-use Rattle.changes.specs.declared.refusals.Outcome.the-variants.{Done, Conflict, Refused}
+use Rattle.merge_log.specs.Answers.{outcomeIs}
+use Rattle.merge_log.specs.declared.refusals.Refusal as refusal
+use Rattle.merge_log.specs.declared.refusals.Refusal.the-variants.{NotWaiting, Unmergeable, NoMark}
+use Rattle.merge_log.specs.declared.refusals.Outcome as step
+use Rattle.merge_log.specs.declared.refusals.Outcome.the-variants.{Done, Conflict, Refused}
 use Rattle.tables.specs.declared.numbers.Element.{Element}
 use Rattle.merge.specs.declared.calls.MergeAnswer.the-variants.{Merged as AnswerMerged, Refused as AnswerRefused, BadTables}
 use Rattle.merge.specs.declared.calls.RollbackAnswer.the-variants.{TakenOff, Refused as RollbackRefused, BadTables as RollbackBadTables}

@@ -25,11 +25,11 @@ use Rattle.merge_rules.specs.Calls.{mergeTree}
 use Rattle.merge_rules.specs.Level.{mergeElement}
 use Rattle.merge_rules.specs.Log.{extend}
 use Rattle.merge_rules.specs.Refusals.{Outcome}
-use Rattle.changes.specs.Answers.{outcomeIs}
-use Rattle.changes.specs.declared.refusals.Outcome as step
-use Rattle.changes.specs.declared.refusals.Outcome.the-variants.{Done}
-use Rattle.changes.proofs.refusals.Outcome.{the-type}
-use Rattle.changes.proofs.Laws.Imports.{then-done, then-stop}
+use Rattle.merge_log.specs.Answers.{outcomeIs}
+use Rattle.merge_log.specs.declared.refusals.Outcome as step
+use Rattle.merge_log.specs.declared.refusals.Outcome.the-variants.{Done}
+use Rattle.merge_log.proofs.refusals.Outcome.{the-type}
+use Rattle.imports.proofs.Laws.Imports.{then-done, then-stop}
 use Rattle.merge.specs.declared.tree.Waiting.{Waiting}
 use Rattle.merge.specs.declared.tree.Waiting.the-variants.{Root, Missing}
 use Rattle.merge.specs.Calls.{FindsTree}

@@ -6,8 +6,8 @@ use Rattle.tables.specs.Bytes.{bytes}
 use Rattle.merge_rules.specs.Program.{decimalOf, orDash, lineOf}
 use Rattle.merge_rules.specs.Refusals.{Refusal}
 use Rattle.output.specs.Answers.{refusalFields}
-use Rattle.output.specs.Refusals.{RefusalFields, refusalFieldsOf, optionalIs, refusalFieldsIs}
-use Rattle.output.specs.declared.refusals.RefusalFields as program
+use Rattle.merge_log.specs.Refusals.{RefusalFields, refusalFieldsOf, optionalIs, refusalFieldsIs}
+use Rattle.merge_log.specs.declared.refusals.RefusalFields as program
 
 pub refusal-text : (f : program.RefusalFields) (r : Refusal) → refusalFieldsIs f ≡ refusalFieldsOf r
     → lineOf (decimalOf (f .number) ∷ orDash (optionalIs (f .element)) ∷ orDash (optionalIs (f .name)) ∷ []) ≡ refusalFields r

@@ -6,11 +6,13 @@ use borrow.Fn.Kinds.{In}
 use borrow.Fn.PlainCycle.{Measures, is, falls, and}
 use borrow.Rule.Slice.PartMut.{putMid, take-put, same-len-mid}
 use lib.ListN.{length}
-use Rattle.tables.specs.Limits.{versionLimit}
+use Rattle.tables.specs.ModelTable.{modelOf}
 use Rattle.tables.specs.SetCells.{setIs}
+use Rattle.table_test.specs.Fits.{KeepsState}
 use Rattle.state_test.specs.StateTest.{fixedIn, stateIn}
-use Rattle.merge_rules.specs.Level.{levelVersion, mergeElement}
-use Rattle.level.proofs.Laws.Level.{level-version-is, level-version-low, level-none, level-twice, level-stuck, level-stop, level-pairs, room-most, rows-first, plan-rows, pair-settled, pair-done, pair-bare, PairsLeft, pairs-start, pairs-end, first-in, mate-in, pairs-skip, pairs-stop, pairs-more}
+use Rattle.merge_rules.specs.Level.{mergeElement}
+use Rattle.merge_log.specs.Answers.{outcomeIs}
+use Rattle.level.proofs.Laws.Level.{level-version-is, pair-version-is, level-version-low, level-none, level-twice, level-stuck, level-stop, level-pairs, room-most, rows-first, plan-rows, pair-settled, pair-done, pair-bare, PairsLeft, pairs-start, pairs-end, first-in, mate-in, pairs-skip, pairs-stop, pairs-more}
 use Rattle.level.proofs.level.merge_apart.Reads as merge-apart
 use Rattle.level.proofs.level.merge_apart.Kinds as merge-apart-kinds
 use Rattle.level.proofs.level.+merge_apart+merge_element+merge_pair+merge_sub_elements.Lts-merge_apart as merge-apart-lts
@@ -26,9 +28,10 @@ use Rattle.level.proofs.level.+merge_apart+merge_element+merge_pair+mer
 use Rattle.level.proofs.level.apply_plan.Reads as apply-plan-reads
 use Rattle.level.proofs.level.is_bare.Reads as is-bare-reads
 use Rattle.level.proofs.level.level_room.Reads as level-room-reads
-use Rattle.level.proofs.settle.extend_pair.Reads as extend-pair-reads
-use Rattle.level.proofs.settle.files_of_pair.Reads as files-of-pair-reads
-use Rattle.level.proofs.settle.settle.Reads as settle-reads
+use Rattle.level.proofs.level.pair_version.Reads as pair-version-reads
+use Rattle.pairs.proofs.settle.extend_pair.Reads as extend-pair-reads
+use Rattle.pairs.proofs.settle.files_of_pair.Reads as files-of-pair-reads
+use Rattle.pairs.proofs.settle.settle.Reads as settle-reads
 use Rattle.pairing.proofs.walk.plan_level.Reads as plan-level-reads
 use Rattle.schema_calls.proofs.files.least_version.Reads as least-version-reads
 use Rattle.tables.proofs.log.log_length.Reads as log-length-reads
@@ -43,7 +46,7 @@ abbrev μ-merge-apart : Measures 5 merge-apart-kinds.ps ℕ
 μ-merge-apart κs a = 4 * a .1 .1 .1 .1 .1 .1 .1 .1 .1 .1 .0 + 1
 
 abbrev μ-merge-element : Measures 6 merge-element-kinds.ps ℕ
-μ-merge-element κs a = 4 * a .1 .1 .1 .1 .1 .1 .1 .1 .1 .1 .1 .0
+μ-merge-element κs a = 4 * a .1 .1 .1 .1 .1 .1 .1 .1 .1 .1 .1 .1 .0
 
 abbrev μ-merge-pair : Measures 6 merge-pair-kinds.ps ℕ
 μ-merge-pair κs a = 4 * a .1 .1 .1 .1 .1 .1 .1 .1 .1 .1 .1 .1 .1 .0 + 2
@@ -96,100 +99,100 @@ merge-sub-elements-below t =
     merge-sub-elements.Pre
 
 abbrev merge-apart-has : ℕ → merge-apart-lts.Claims
-merge-apart-has t = (merge-element-below t, merge-element.Post)
+merge-apart-has t = (least-version-reads.Asked, least-version-reads.Learnt, merge-element-below t, merge-element.Post)
 
 abbrev merge-element-has : ℕ → merge-element-lts.Claims
-merge-element-has t = (least-version-reads.Asked, least-version-reads.Learnt, plan-level-reads.Asked, plan-level-reads.Learnt, apply-plan-reads.Asked, apply-plan-reads.Learnt, merge-sub-elements-below t, merge-sub-elements.Post)
+merge-element-has t = (plan-level-reads.Asked, plan-level-reads.Learnt, apply-plan-reads.Asked, apply-plan-reads.Learnt, merge-sub-elements-below t, merge-sub-elements.Post)
 
 abbrev merge-pair-has : ℕ → merge-pair-lts.Claims
-merge-pair-has t = (is-bare-reads.Asked, is-bare-reads.Learnt, extend-pair-reads.Asked, extend-pair-reads.Learnt, files-of-pair-reads.Asked, files-of-pair-reads.Learnt, log-length-reads.Asked, log-length-reads.Learnt, level-room-reads.Asked, level-room-reads.Learnt, merge-element-below t, merge-element.Post, settle-reads.Asked, settle-reads.Learnt, merge-apart-below t, merge-apart.Post)
+merge-pair-has t = (is-bare-reads.Asked, is-bare-reads.Learnt, extend-pair-reads.Asked, extend-pair-reads.Learnt, files-of-pair-reads.Asked, files-of-pair-reads.Learnt, log-length-reads.Asked, log-length-reads.Learnt, level-room-reads.Asked, level-room-reads.Learnt, pair-version-reads.Asked, pair-version-reads.Learnt, merge-element-below t, merge-element.Post, settle-reads.Asked, settle-reads.Learnt, merge-apart-below t, merge-apart.Post)
 
 abbrev merge-sub-elements-has : ℕ → merge-sub-elements-lts.Claims
 merge-sub-elements-has t = (merge-pair-below t, merge-pair.Post)
 
+merge-apart-least-version-requires : (t : ℕ) → merge-apart-lts.Need-least-version-requires (merge-apart-has t) (merge-apart-at t) merge-apart.Post
+merge-apart-least-version-requires t c κs =
+    c .before .before .before .before .before .pre .1 .0 .schemaTested .good
+
 merge-apart-merge-element-requires : (t : ℕ) → merge-apart-lts.Need-merge-element-requires (merge-apart-has t) (merge-apart-at t) merge-apart.Post
 merge-apart-merge-element-requires t c κs =
-    let s = c .before .before .before .before .before .before .before .before in
+    let s = c .before .before .before .before .before .before .before .before .before in
     let fits = s .pre .1 .1 .0 .modelFits in
     let z = fits .same in
     let room = room-most (s .args .model .now) (fits .good) (s .args .a .0) (s .args .b .0) (rw z (s .pre .1 .1 .1 .1 .1 .0)) (rw z (s .pre .1 .1 .1 .1 .1 .1)) in
-    (omega (arith, s .pre .0), (s .pre .1 .0, (s .pre .1 .1 .0, (s .pre .1 .1 .1 .0, (s .pre .1 .1 .1 .1 .0, (s .pre .1 .1 .1 .1 .1 .0, (s .pre .1 .1 .1 .1 .1 .1, room)))))))
+    (omega (arith, s .pre .0), (s .pre .1 .0, (s .pre .1 .1 .0, (s .pre .1 .1 .1 .0, (s .pre .1 .1 .1 .1 .0, (c .before .before .before .least-version .ensures ∙ level-version-is (s .args .schema .now) (s .args .f .0) (s .args .version) (s .pre .1 .1 .1 .1 .0) (s .args .deck .now) (s .args .elements .now) (setIs (s .args .files)), (s .pre .1 .1 .1 .1 .1 .0, (s .pre .1 .1 .1 .1 .1 .1, room))))))))
 
 merge-apart-returns : (t : ℕ) → merge-apart-lts.Need-returns (merge-apart-has t) (merge-apart-at t) merge-apart.Post
 merge-apart-returns t c =
     let m = c .before .before .before .before .before .merge-element in
     (m .ensures .0, m .ensures .1)
 
-merge-element-version :
-    (t : ℕ) (c : merge-element-lts.After-least-version (merge-element-has t) (merge-element-at t) merge-element.Post)
-    → let s = c .before .before .before .before .before .before .before .before in
-    c .least-version .result ≡ levelVersion (fixedIn (s .args .deck .now) (s .args .schema .now) (s .args .elements .now)) (s .args .f .0) (setIs (s .args .files))
-merge-element-version t c =
-    let s = c .before .before .before .before .before .before .before .before in
-    level-version-is (s .args .schema .now) (s .args .f .0) (s .args .version) (s .pre .1 .1 .1 .1 .0) (setIs (s .args .files)) (c .least-version .result) (c .least-version .ensures) (s .args .deck .now) (s .args .elements .now)
-
-merge-element-version-low :
-    (t : ℕ) (c : merge-element-lts.After-least-version (merge-element-has t) (merge-element-at t) merge-element.Post) → c .least-version .result < versionLimit
-merge-element-version-low t c =
-    let s = c .before .before .before .before .before .before .before .before in
-    level-version-low (s .args .schema .now) (s .args .f .0) (s .args .version) (s .pre .1 .1 .1 .1 .0) (setIs (s .args .files)) (c .least-version .result) (c .least-version .ensures) (s .pre .1 .0 .schemaTested)
-
 merge-element-returns : (t : ℕ) → merge-element-lts.Need-returns (merge-element-has t) (merge-element-at t) merge-element.Post
 merge-element-returns t c =
     (level-none _ _ _ _ _ _ _ (c .if1 .taken), λ n texts q. q)
 
-merge-element-least-version-requires : (t : ℕ) → merge-element-lts.Need-least-version-requires (merge-element-has t) (merge-element-at t) merge-element.Post
-merge-element-least-version-requires t c κs =
-    c .before .before .before .before .before .before .before .pre .1 .0 .schemaTested .good
-
 merge-element-plan-level-requires : (t : ℕ) → merge-element-lts.Need-plan-level-requires (merge-element-has t) (merge-element-at t) merge-element.Post
 merge-element-plan-level-requires t c κs =
-    let s = c .before .before .before .before .before .before .before .before .before .before in
-    (s .pre .1 .0, (s .pre .1 .1 .0 .modelFits, (s .pre .1 .1 .1 .1 .1 .0, (s .pre .1 .1 .1 .1 .1 .1 .0, (merge-element-version-low t (c .before .before), s .pre .1 .1 .1 .1 .1 .1 .1)))))
+    let s = c .before .before .before .before .before .before .before .before .before in
+    (s .pre .1 .0, (s .pre .1 .1 .0 .modelFits, (s .pre .1 .1 .1 .1 .1 .1 .0, (s .pre .1 .1 .1 .1 .1 .1 .1 .0, (level-version-low _ _ _ _ _ _ (s .pre .1 .1 .1 .1 .1 .0) (s .pre .1 .0 .schemaTested), s .pre .1 .1 .1 .1 .1 .1 .1 .1)))))
 
 merge-element-apply-plan-requires : (t : ℕ) → merge-element-lts.Need-apply-plan-requires (merge-element-has t) (merge-element-at t) merge-element.Post
 merge-element-apply-plan-requires t c κs =
-    let s = c .before .before .before .before .before .before .before .before .before .before .before .before .before .before .before .before .before .before .before in
+    let s = c .before .before .before .before .before .before .before .before .before .before .before .before .before .before .before .before .before .before in
     let q = c .before .before .before .before .before .before .before .before .plan-level in
     let k = c .before .before .before .before .planned .given in
     let g = s .pre .1 .0 in
-    (g .schemaTested, (g .elementsGood, (g .typesIn, (s .pre .1 .1 .0, (plan-rows _ (q .result) (q .last .1 .1 .1 .1 .1 .1 .1 .0) (k .0 .0) (k .0 .1 .0) (q .ensures .1) (k .1), (s .pre .1 .1 .1 .0, (s .pre .1 .1 .1 .1 .0, s .pre .1 .1 .1 .1 .1 .0)))))))
+    (g .schemaTested, (g .elementsGood, (g .typesIn, (s .pre .1 .1 .0, (plan-rows _ (q .result) (q .last .1 .1 .1 .1 .1 .1 .1 .0) (k .0 .0) (k .0 .1 .0) (q .ensures .1) (k .1), (s .pre .1 .1 .1 .0, (s .pre .1 .1 .1 .1 .0, s .pre .1 .1 .1 .1 .1 .1 .0)))))))
 
 merge-element-merge-sub-elements-requires : (t : ℕ) → merge-element-lts.Need-merge-sub-elements-requires (merge-element-has t) (merge-element-at t) merge-element.Post
 merge-element-merge-sub-elements-requires t c κs =
-    let s = c .before .before .before .before .before .before .before .before .before .before .before .before .before .before .before .before .before .before .before .before .before .before .before .before .before .before .before .before .before in
-    let deep : s .args .depth ≡ 0 → ⊥ = c .before .before .before .before .before .before .before .before .before .before .before .before .before .before .before .before .before .before .before .before .before .before .if1 .left in
+    let s = c .before .before .before .before .before .before .before .before .before .before .before .before .before .before .before .before .before .before .before .before .before .before .before .before .before .before .before .before in
+    let deep : s .args .depth ≡ 0 → ⊥ = c .before .before .before .before .before .before .before .before .before .before .before .before .before .before .before .before .before .before .before .before .before .if1 .left in
     let q = c .before .before .before .before .before .before .before .before .before .before .before .before .before .before .before .before .before .before .plan-level in
     let k = c .before .before .before .before .before .before .before .before .before .before .before .before .before .before .planned .given in
     let o = c .before .before .before .before .before .before .before .before .before .apply-plan in
     let rows = rows-first _ (q .last .1 .1 .1 .1 .1 .1 .1 .0) (k .0 .0) (k .0 .1 .0) (plan-rows _ (q .result) (q .last .1 .1 .1 .1 .1 .1 .1 .0) (k .0 .0) (k .0 .1 .0) (q .ensures .1) (k .1)) in
-    (omega (arith, s .pre .0), (s .pre .1 .0, (o .ensures .1 _ _ (s .pre .1 .1 .0), (s .pre .1 .1 .1 .0, (s .pre .1 .1 .1 .1 .0, (merge-element-version-low t (c .before .before .before .before .before .before .before .before .before .before .before .before .before .before .before .before .before .before .before .before .before), (s .pre .1 .1 .1 .1 .1 .0, rows)))))))
+    (omega (arith, s .pre .0), (s .pre .1 .0, (o .ensures .1 _ _ (s .pre .1 .1 .0), (s .pre .1 .1 .1 .0, (s .pre .1 .1 .1 .1 .0, (s .pre .1 .1 .1 .1 .1 .0, (s .pre .1 .1 .1 .1 .1 .1 .0, rows)))))))
+
+merge-element-pairs :
+    (t : ℕ) (c : merge-element-lts.After-merge-sub-elements (merge-element-has t) (merge-element-at t) merge-element.Post)
+    → let a = c .before .before .before .before .before .before .before .before .before .before .before .before .before .before .before .before .before .before .before .before .before .before .before .before .before .before .before .before .before .args in
+    let b = c .merge-sub-elements in
+    (outcomeIs (b .result) (stateIn (b .last .1 .1 .1 .0) (b .last .1 .1 .1 .1 .0)) ≡ mergeElement (a .depth) (fixedIn (a .deck .now) (a .schema .now) (a .elements .now)) (a .f .0) (setIs (a .files)) (a .a .0) (a .b .0) (stateIn (a .model .now) (a .log .now))) × KeepsState (a .model .now) (a .log .now) (b .last .1 .1 .1 .0) (b .last .1 .1 .1 .1 .0)
+merge-element-pairs t c =
+    let s = c .before .before .before .before .before .before .before .before .before .before .before .before .before .before .before .before .before .before .before .before .before .before .before .before .before .before .before .before .before in
+    let q = c .before .before .before .before .before .before .before .before .before .before .before .before .before .before .before .before .before .before .before .plan-level in
+    let k = c .before .before .before .before .before .before .before .before .before .before .before .before .before .before .before .planned .given in
+    let o = c .before .before .before .before .before .before .before .before .before .before .apply-plan in
+    let b = c .merge-sub-elements in
+    (b .ensures .0 ∙ level-pairs _ _ _ _ _ _ _ (c .before .before .before .before .before .before .before .before .before .before .before .before .before .before .before .before .before .before .before .before .before .before .if1 .left) _ (s .pre .1 .1 .1 .1 .1 .0) (q .result) (q .last .1 .1 .1 .1 .1 .1 .1 .0) (q .ensures .0) (k .0 .0) (k .0 .1 .0) (k .1) (stateIn (o .last .1 .1 .0) (o .last .1 .1 .1 .0)) (o .result) (o .ensures .0 (s .args .deck .now)) (c .before .before .before .before .enum-told .given .1), λ n texts f. b .ensures .1 n texts (o .ensures .1 n texts f))
 
 merge-element-returns-2 : (t : ℕ) → merge-element-lts.Need-returns-2 (merge-element-has t) (merge-element-at t) merge-element.Post
 merge-element-returns-2 t c =
-    let q = c .before .before .before .before .before .before .before .before .before .before .before .before .before .before .before .before .before .before .before .before .before .before .before .before .before .plan-level in
-    let k = c .before .before .before .before .before .before .before .before .before .before .before .before .before .before .before .before .before .before .before .before .before .planned .given in
-    let o = c .before .before .before .before .before .before .before .before .before .before .before .before .before .before .before .before .apply-plan in
-    let b = c .before .before .before .before .before .before .merge-sub-elements in
-    (b .ensures .0 ∙ level-pairs _ _ _ _ _ _ _ (c .before .before .before .before .before .before .before .before .before .before .before .before .before .before .before .before .before .before .before .before .before .before .before .before .before .before .before .before .before .if1 .left) _ (merge-element-version t (c .before .before .before .before .before .before .before .before .before .before .before .before .before .before .before .before .before .before .before .before .before .before .before .before .before .before .before .before)) (q .result) (q .last .1 .1 .1 .1 .1 .1 .1 .0) (q .ensures .0) (k .0 .0) (k .0 .1 .0) (k .1) (stateIn (o .last .1 .1 .0) (o .last .1 .1 .1 .0)) (o .result) (o .ensures .0 (c .before .before .before .before .before .before .before .before .before .before .before .before .before .before .before .before .before .before .before .before .before .before .before .before .before .before .before .before .before .before .before .before .before .before .before .before .args .deck .now)) (c .before .before .before .before .before .before .before .before .before .before .enum-told .given .1), λ n texts f. b .ensures .1 n texts (o .ensures .1 n texts f))
+    let k = merge-element-pairs t (c .before .before .before .before .before .before .before .before) in
+    (rw (c .enum-told2 .given .1) at (k .0), k .1)
 
 merge-element-returns-3 : (t : ℕ) → merge-element-lts.Need-returns-3 (merge-element-has t) (merge-element-at t) merge-element.Post
 merge-element-returns-3 t c =
-    let q = c .before .before .before .before .before .before .before .before .before .before .before .before .before .before .plan-level in
-    let k = c .before .before .before .before .before .before .before .before .before .before .planned .given in
-    let o = c .before .before .before .before .before .apply-plan in
-    (level-stop _ _ _ _ _ _ _ (c .before .before .before .before .before .before .before .before .before .before .before .before .before .before .before .before .before .before .if1 .left) _ (merge-element-version t (c .before .before .before .before .before .before .before .before .before .before .before .before .before .before .before .before .before)) (q .result) (q .last .1 .1 .1 .1 .1 .1 .1 .0) (q .ensures .0) (k .0 .0) (k .0 .1 .0) (k .1) (stateIn (o .last .1 .1 .0) (o .last .1 .1 .1 .0)) (o .result) (o .ensures .0 (c .before .before .before .before .before .before .before .before .before .before .before .before .before .before .before .before .before .before .before .before .before .before .before .before .before .args .deck .now)) (c .match2 .keys2), o .ensures .1)
+    merge-element-pairs t (c .before .before .before .before .before .before .before)
 
 merge-element-returns-4 : (t : ℕ) → merge-element-lts.Need-returns-4 (merge-element-has t) (merge-element-at t) merge-element.Post
 merge-element-returns-4 t c =
-    let q = c .before .before .before .before .before .plan-level in
-    let k = c .before .planned2 .given in
-    (level-twice _ _ _ _ _ _ _ (c .before .before .before .before .before .before .before .before .before .if1 .left) _ (merge-element-version t (c .before .before .before .before .before .before .before .before)) (q .result) (q .last .1 .1 .1 .1 .1 .1 .1 .0) (q .ensures .0) (k .0 .0) (k .1), λ n texts f. f)
+    let q = c .before .before .before .before .before .before .before .before .before .before .before .before .before .before .plan-level in
+    let k = c .before .before .before .before .before .before .before .before .before .before .planned .given in
+    let o = c .before .before .before .before .before .apply-plan in
+    (level-stop _ _ _ _ _ _ _ (c .before .before .before .before .before .before .before .before .before .before .before .before .before .before .before .before .before .if1 .left) _ (c .before .before .before .before .before .before .before .before .before .before .before .before .before .before .before .before .before .before .before .before .before .before .before .before .pre .1 .1 .1 .1 .1 .0) (q .result) (q .last .1 .1 .1 .1 .1 .1 .1 .0) (q .ensures .0) (k .0 .0) (k .0 .1 .0) (k .1) (stateIn (o .last .1 .1 .0) (o .last .1 .1 .1 .0)) (o .result) (o .ensures .0 (c .before .before .before .before .before .before .before .before .before .before .before .before .before .before .before .before .before .before .before .before .before .before .before .before .args .deck .now)) (c .match2 .keys2), o .ensures .1)
 
 merge-element-returns-5 : (t : ℕ) → merge-element-lts.Need-returns-5 (merge-element-has t) (merge-element-at t) merge-element.Post
 merge-element-returns-5 t c =
+    let q = c .before .before .before .before .before .plan-level in
+    let k = c .before .planned2 .given in
+    (level-twice _ _ _ _ _ _ _ (c .before .before .before .before .before .before .before .before .if1 .left) _ (c .before .before .before .before .before .before .before .before .before .before .before .before .before .before .before .pre .1 .1 .1 .1 .1 .0) (q .result) (q .last .1 .1 .1 .1 .1 .1 .1 .0) (q .ensures .0) (k .0 .0) (k .1), λ n texts f. f)
+
+merge-element-returns-6 : (t : ℕ) → merge-element-lts.Need-returns-6 (merge-element-has t) (merge-element-at t) merge-element.Post
+merge-element-returns-6 t c =
     let q = c .before .before .before .before .plan-level in
-    (level-stuck _ _ _ _ _ _ _ (c .before .before .before .before .before .before .before .before .if1 .left) _ (merge-element-version t (c .before .before .before .before .before .before .before)) (q .result) (q .last .1 .1 .1 .1 .1 .1 .1 .0) (q .ensures .0) (c .enum-told2 .given .1), λ n texts f. f)
+    (level-stuck _ _ _ _ _ _ _ (c .before .before .before .before .before .before .before .if1 .left) _ (c .before .before .before .before .before .before .before .before .before .before .before .before .before .before .pre .1 .1 .1 .1 .1 .0) (q .result) (q .last .1 .1 .1 .1 .1 .1 .1 .0) (q .ensures .0) (c .enum-told3 .given .1), λ n texts f. f)
 
 merge-pair-is-bare-requires : (t : ℕ) → merge-pair-lts.Need-is-bare-requires (merge-pair-has t) (merge-pair-at t) merge-pair.Post
 merge-pair-is-bare-requires t c κs =
@@ -223,34 +226,41 @@ merge-pair-level-room-requires : (t : ℕ) → merge-pair-lts.Need-level-room-re
 merge-pair-level-room-requires t c κs =
     merge-pair-is-bare-requires t (c .before .before .before .before .before .before .before) κs
 
+merge-pair-pair-version-requires : (t : ℕ) → merge-pair-lts.Need-pair-version-requires (merge-pair-has t) (merge-pair-at t) merge-pair.Post
+merge-pair-pair-version-requires t c κs =
+    (c .before .before .before .before .before .before .before .before .before .before .before .before .before .before .before .before .before .pre .1 .0 .schemaTested .good, merge-pair-files-of-pair-requires t (c .before .before .before .before .before .before .before) (κs .1))
+
 merge-pair-merge-element-requires : (t : ℕ) → merge-pair-lts.Need-merge-element-requires (merge-pair-has t) (merge-pair-at t) merge-pair.Post
 merge-pair-merge-element-requires t c κs =
-    let s = c .before .before .before .before .before .before .before .before .before .before .before .before .before .before .before .before .before .before .before in
-    (omega (arith, s .pre .0), (s .pre .1 .0, (s .pre .1 .1 .0, (s .pre .1 .1 .1 .0, (s .pre .1 .1 .1 .1 .0, (s .pre .1 .1 .1 .1 .1 .1 .1 .0, (s .pre .1 .1 .1 .1 .1 .1 .1 .1, omega (arith, c .before .before .before .before .level-room .ensures, c .before .before .before .if2 .taken))))))))
+    let s = c .before .before .before .before .before .before .before .before .before .before .before .before .before .before .before .before .before .before .before .before .before in
+    let own = c .before .before .before .before .before .before .before .before .before .before .files-of-pair in
+    let w = c .before .before .before .pair-version in
+    let version = pair-version-is (s .args .schema .now) (s .args .f .0) (s .args .version) (s .pre .1 .1 .1 .1 .0) (s .args .deck .now) (s .args .elements .now) (setIs (s .args .files)) (s .args .v) (s .pre .1 .1 .1 .1 .1 .0) (modelOf (s .args .model .now)) (s .args .a .0) (w .result) (w .ensures) (setIs (own .result)) (own .ensures) in
+    (omega (arith, s .pre .0), (s .pre .1 .0, (s .pre .1 .1 .0, (s .pre .1 .1 .1 .0, (s .pre .1 .1 .1 .1 .0, (version, (s .pre .1 .1 .1 .1 .1 .1 .1 .0, (s .pre .1 .1 .1 .1 .1 .1 .1 .1, omega (arith, c .before .before .before .before .before .before .level-room .ensures, c .before .before .before .before .before .if2 .taken)))))))))
 
 merge-pair-extend-pair-requires-2 : (t : ℕ) → merge-pair-lts.Need-extend-pair-requires-2 (merge-pair-has t) (merge-pair-at t) merge-pair.Post
 merge-pair-extend-pair-requires-2 t c κs =
-    let s = c .before .before .before .before .before .before .before .before .before .before .before .before .before .before .before .before .before .before .before .before .before .before .before .before .before .before .before .before .before .before in
+    let s = c .before .before .before .before .before .before .before .before .before .before .before .before .before .before .before .before .before .before .before .before .before .before .before .before .before .before .before .before .before .before .before .before in
     let state = c .before .before .before .before .before .before .before .before .before .before .merge-element .ensures .1 _ _ (s .pre .1 .1 .0) in
     (state .modelFits .good, (state .logFits .good, (rw (state .modelFits .same) (s .pre .1 .1 .1 .1 .1 .1 .1 .0), s .pre .1 .1 .1 .0)))
 
 merge-pair-returns-2 : (t : ℕ) → merge-pair-lts.Need-returns-2 (merge-pair-has t) (merge-pair-at t) merge-pair.Post
 merge-pair-returns-2 t c =
-    let own = c .before .before .before .before .before .before .before .before .before .before .before .before .before .before .before .before .before .before .before .before .before .before .before .before .files-of-pair in
-    let mark = c .before .before .before .before .before .before .before .before .before .before .before .before .before .before .before .before .before .before .before .before .before .before .log-length in
+    let own = c .before .before .before .before .before .before .before .before .before .before .before .before .before .before .before .before .before .before .before .before .before .before .before .before .before .before .files-of-pair in
+    let mark = c .before .before .before .before .before .before .before .before .before .before .before .before .before .before .before .before .before .before .before .before .before .before .before .before .log-length in
     let e = c .before .before .before .before .before .before .before .before .before .before .before .before .before .before .before .merge-element in
     let o = c .before .before .before .before .extend-pair2 in
     (o .ensures .0 ∙ pair-done _ _ _ _ _ _ _ _ (setIs (own .result)) (mark .result) (own .ensures) (mark .ensures) (stateIn (e .last .1 .1 .1 .0) (e .last .1 .1 .1 .1 .0)) (e .result) (e .ensures .0) (c .before .before .before .before .before .before .before .enum-told .given .1), λ n texts q. o .ensures .1 n texts (e .ensures .1 n texts q))
 
 merge-pair-settle-requires : (t : ℕ) → merge-pair-lts.Need-settle-requires (merge-pair-has t) (merge-pair-at t) merge-pair.Post
 merge-pair-settle-requires t c κs =
-    let s = c .before .before .before .before .before .before .before .before .before .before .before .before .before .before .before .before .before .before .before .before .before .before .before .before .before .before .before .before .before in
-    (s .pre .1 .0, (c .before .before .before .before .before .before .before .before .before .merge-element .ensures .1 _ _ (s .pre .1 .1 .0), (s .pre .1 .1 .1 .0, s .pre .1 .1 .1 .1 .1)))
+    let s = c .before .before .before .before .before .before .before .before .before .before .before .before .before .before .before .before .before .before .before .before .before .before .before .before .before .before .before .before .before .before .before in
+    (s .pre .1 .0, (c .before .before .before .before .before .before .before .before .before .merge-element .ensures .1 _ _ (s .pre .1 .1 .0), (s .pre .1 .1 .1 .0, (level-version-low _ _ _ _ _ _ (s .pre .1 .1 .1 .1 .1 .0) (s .pre .1 .0 .schemaTested), s .pre .1 .1 .1 .1 .1 .1))))
 
 merge-pair-returns-3 : (t : ℕ) → merge-pair-lts.Need-returns-3 (merge-pair-has t) (merge-pair-at t) merge-pair.Post
 merge-pair-returns-3 t c =
-    let own = c .before .before .before .before .before .before .before .before .before .before .before .before .before .before .before .before .before .before .before .before .before .before .before .files-of-pair in
-    let mark = c .before .before .before .before .before .before .before .before .before .before .before .before .before .before .before .before .before .before .before .before .before .log-length in
+    let own = c .before .before .before .before .before .before .before .before .before .before .before .before .before .before .before .before .before .before .before .before .before .before .before .before .before .files-of-pair in
+    let mark = c .before .before .before .before .before .before .before .before .before .before .before .before .before .before .before .before .before .before .before .before .before .before .before .log-length in
     let e = c .before .before .before .before .before .before .before .before .before .before .before .before .before .before .merge-element in
     let o = c .before .before .before .before .settle in
     (o .ensures .0 ∙ pair-settled _ _ _ _ _ _ _ _ (setIs (own .result)) (mark .result) (own .ensures) (mark .ensures) (stateIn (e .last .1 .1 .1 .0) (e .last .1 .1 .1 .1 .0)) (e .result) (e .ensures .0), λ n texts q. o .ensures .1 n texts (e .ensures .1 n texts q))
@@ -263,7 +273,7 @@ merge-pair-merge-apart-requires t c κs =
 merge-pair-settle-requires-2 : (t : ℕ) → merge-pair-lts.Need-settle-requires-2 (merge-pair-has t) (merge-pair-at t) merge-pair.Post
 merge-pair-settle-requires-2 t c κs =
     let s = c .before .before .before .before .before .before .before .before .before .before .before .before .before .before .before .before .before .before .before .before .before .before .before .before .before in
-    (s .pre .1 .0, (c .before .before .before .before .before .before .merge-apart .ensures .1 _ _ (s .pre .1 .1 .0), (s .pre .1 .1 .1 .0, s .pre .1 .1 .1 .1 .1)))
+    (s .pre .1 .0, (c .before .before .before .before .before .before .merge-apart .ensures .1 _ _ (s .pre .1 .1 .0), (s .pre .1 .1 .1 .0, (level-version-low _ _ _ _ _ _ (s .pre .1 .1 .1 .1 .1 .0) (s .pre .1 .0 .schemaTested), s .pre .1 .1 .1 .1 .1 .1))))
 
 merge-pair-returns-4 : (t : ℕ) → merge-pair-lts.Need-returns-4 (merge-pair-has t) (merge-pair-at t) merge-pair.Post
 merge-pair-returns-4 t c =
@@ -375,7 +385,7 @@ merge-sub-elements-returns-2 t c =
 pub +merge-apart+merge-element+merge-pair+merge-sub-elements-spec : {M : Type 1} → statement M
 +merge-apart+merge-element+merge-pair+merge-sub-elements-spec =
     close μ-merge-apart μ-merge-element μ-merge-pair μ-merge-sub-elements
-    (λ t. merge-apart-lts.spec (merge-apart-has t) (merge-apart-at t) merge-apart.Post (λ c. search needs) (merge-apart-merge-element-requires t) (λ c. search needs) (λ c. search needs) (merge-apart-returns t))
-    (λ t. merge-element-lts.spec (merge-element-has t) (merge-element-at t) merge-element.Post (merge-element-returns t) (merge-element-least-version-requires t) (merge-element-plan-level-requires t) (λ c. search needs) (merge-element-apply-plan-requires t) (λ c. search needs) (λ c. search needs) (merge-element-merge-sub-elements-requires t) (λ c. search needs) (λ c. search needs) (λ c. search needs) (merge-element-returns-2 t) (λ c. search needs) (λ c. search needs) (λ c. search needs) (λ c. search needs) (λ c. search needs) (merge-element-returns-3 t) (λ c. search needs) (λ c. search needs) (merge-element-returns-4 t) (λ c. search needs) (λ c. search needs) (merge-element-returns-5 t))
-    (λ t. merge-pair-lts.spec (merge-pair-has t) (merge-pair-at t) merge-pair.Post (merge-pair-is-bare-requires t) (merge-pair-extend-pair-requires t) (λ c. search needs) (λ c. search needs) (merge-pair-returns t) (merge-pair-files-of-pair-requires t) (merge-pair-log-length-requires t) (merge-pair-level-room-requires t) (merge-pair-merge-element-requires t) (λ c. search needs) (merge-pair-extend-pair-requires-2 t) (λ c. search needs) (λ c. search needs) (λ c. search needs) (merge-pair-returns-2 t) (merge-pair-settle-requires t) (λ c. search needs) (λ c. search needs) (λ c. search needs) (merge-pair-returns-3 t) (merge-pair-merge-apart-requires t) (merge-pair-settle-requires-2 t) (λ c. search needs) (λ c. search needs) (merge-pair-returns-4 t))
+    (λ t. merge-apart-lts.spec (merge-apart-has t) (merge-apart-at t) merge-apart.Post (merge-apart-least-version-requires t) (λ c. search needs) (merge-apart-merge-element-requires t) (λ c. search needs) (λ c. search needs) (merge-apart-returns t))
+    (λ t. merge-element-lts.spec (merge-element-has t) (merge-element-at t) merge-element.Post (merge-element-returns t) (merge-element-plan-level-requires t) (λ c. search needs) (merge-element-apply-plan-requires t) (λ c. search needs) (λ c. search needs) (merge-element-merge-sub-elements-requires t) (λ c. search needs) (λ c. search needs) (λ c. search needs) (λ c. search needs) (merge-element-returns-2 t) (λ c. search needs) (λ c. search needs) (λ c. search needs) (merge-element-returns-3 t) (λ c. search needs) (λ c. search needs) (λ c. search needs) (λ c. search needs) (λ c. search needs) (merge-element-returns-4 t) (λ c. search needs) (λ c. search needs) (merge-element-returns-5 t) (λ c. search needs) (λ c. search needs) (merge-element-returns-6 t))
+    (λ t. merge-pair-lts.spec (merge-pair-has t) (merge-pair-at t) merge-pair.Post (merge-pair-is-bare-requires t) (merge-pair-extend-pair-requires t) (λ c. search needs) (λ c. search needs) (merge-pair-returns t) (merge-pair-files-of-pair-requires t) (merge-pair-log-length-requires t) (merge-pair-level-room-requires t) (merge-pair-pair-version-requires t) (merge-pair-merge-element-requires t) (λ c. search needs) (merge-pair-extend-pair-requires-2 t) (λ c. search needs) (λ c. search needs) (λ c. search needs) (merge-pair-returns-2 t) (merge-pair-settle-requires t) (λ c. search needs) (λ c. search needs) (λ c. search needs) (merge-pair-returns-3 t) (merge-pair-merge-apart-requires t) (merge-pair-settle-requires-2 t) (λ c. search needs) (λ c. search needs) (merge-pair-returns-4 t))
     (λ t. merge-sub-elements-lts.spec (merge-sub-elements-has t) (merge-sub-elements-at t) merge-sub-elements.Post merge-sub-elements-Inv-loop merge-sub-elements-μ-loop (merge-sub-elements-mul-rows t) (merge-sub-elements-loop-holds t) (λ c. search needs) (λ c. search needs) (λ c. search needs) (merge-sub-elements-slice-read-mate t) (λ c. search needs) (λ c. search needs) (merge-sub-elements-loop-again t) (λ c. search needs) (merge-sub-elements-slice-read-merge-pair t) (merge-sub-elements-cast-merge-pair t) (λ c. search needs) (merge-sub-elements-cast-merge-pair-2 t) (merge-sub-elements-mul-merge-pair-2 t) (merge-sub-elements-sub-merge-pair-2 t) (merge-sub-elements-part-merge-pair-start t) (λ c. search needs) (merge-sub-elements-merge-pair-requires t) (λ c. search needs) (merge-sub-elements-add-i-2 t) (merge-sub-elements-loop-less-2 t) (merge-sub-elements-loop-again-2 t) (merge-sub-elements-same-length t) (merge-sub-elements-same-length-2 t) (merge-sub-elements-same-length-3 t) (merge-sub-elements-returns t) (λ c. search needs) (λ c. search needs) (λ c. search needs) (merge-sub-elements-returns-2 t))

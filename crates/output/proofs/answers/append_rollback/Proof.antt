@@ -4,7 +4,7 @@ use Rattle.tables.specs.Bytes.{bytes}
 use Rattle.merge_rules.specs.CallLists.{rollbackLine}
 use Rattle.merge_rules.specs.Program.{lineOf, programRules}
 use Rattle.output.specs.Answers.{rollbackText}
-use Rattle.output.specs.Refusals.{RefusalFields, refusalFieldsOf}
+use Rattle.merge_log.specs.Refusals.{RefusalFields, refusalFieldsOf}
 use Rattle.printing.proofs.Laws.Buffers.{then}
 use borrow.Author.Needs.{needs}
 use Rattle.output.proofs.answers.append_rollback.Statement.{statement}

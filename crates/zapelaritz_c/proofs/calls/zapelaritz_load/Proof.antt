@@ -1,9 +1,9 @@
 -- `calls::zapelaritz_load` meets its contract. Assumes nothing.
 use mathlib.Core.Path.{ap, _∙_}
 use Rattle.load.specs.LoadCall.{LoadResult}
-use Rattle.zapelaritz_c.specs.Numbers.{loadNumbers}
+use Rattle.answer_numbers.specs.Numbers.{loadNumbers}
 use Rattle.zapelaritz_c.specs.NumberedCalls.{numberedLoad}
-use Rattle.zapelaritz_c.proofs.Laws.Numbers.{stays, made, written}
+use Rattle.zapelaritz_c.proofs.Laws.NumberedCalls.{stays, made, written}
 use borrow.Author.Needs.{needs}
 use Rattle.zapelaritz_c.proofs.calls.zapelaritz_load.Statement.{statement}
 use Rattle.zapelaritz_c.proofs.calls.zapelaritz_load.Tie as tie

@@ -1,6 +1,6 @@
 -- `calls::zapelaritz_mark` meets its contract. Assumes nothing.
 use Rattle.zapelaritz_c.specs.NumberedCalls.{numberedMark}
-use Rattle.zapelaritz_c.proofs.Laws.Numbers.{stays, made, written}
+use Rattle.zapelaritz_c.proofs.Laws.NumberedCalls.{stays, made, written}
 use borrow.Author.Needs.{needs}
 use Rattle.zapelaritz_c.proofs.calls.zapelaritz_mark.Statement.{statement}
 use Rattle.zapelaritz_c.proofs.calls.zapelaritz_mark.Tie as tie

@@ -1,7 +1,7 @@
 -- `calls::zapelaritz_merge` meets its contract. Assumes nothing.
-use Rattle.zapelaritz_c.specs.Numbers.{mergeNumbers}
+use Rattle.answer_numbers.specs.Numbers.{mergeNumbers}
 use Rattle.zapelaritz_c.specs.NumberedCalls.{numberedMerge}
-use Rattle.zapelaritz_c.proofs.Laws.Numbers.{stays, made, written, call-left}
+use Rattle.zapelaritz_c.proofs.Laws.NumberedCalls.{stays, made, written, call-left}
 use borrow.Author.Needs.{needs}
 use Rattle.zapelaritz_c.proofs.calls.zapelaritz_merge.Statement.{statement}
 use Rattle.zapelaritz_c.proofs.calls.zapelaritz_merge.Tie as tie

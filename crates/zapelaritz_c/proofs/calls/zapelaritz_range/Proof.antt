@@ -1,8 +1,8 @@
 -- `calls::zapelaritz_range` meets its contract. Assumes nothing.
 use mathlib.Core.Path.{ap, _∙_}
-use Rattle.zapelaritz_c.specs.Numbers.{rangeNumbers}
+use Rattle.answer_numbers.specs.Numbers.{rangeNumbers}
 use Rattle.zapelaritz_c.specs.NumberedCalls.{numberedRange}
-use Rattle.zapelaritz_c.proofs.Laws.Numbers.{stays, made, written}
+use Rattle.zapelaritz_c.proofs.Laws.NumberedCalls.{stays, made, written}
 use borrow.Author.Needs.{needs}
 use Rattle.zapelaritz_c.proofs.calls.zapelaritz_range.Statement.{statement}
 use Rattle.zapelaritz_c.proofs.calls.zapelaritz_range.Tie as tie

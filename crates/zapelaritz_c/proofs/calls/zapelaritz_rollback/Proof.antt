@@ -1,7 +1,7 @@
 -- `calls::zapelaritz_rollback` meets its contract. Assumes nothing.
-use Rattle.zapelaritz_c.specs.Numbers.{rollbackNumbers}
+use Rattle.answer_numbers.specs.Numbers.{rollbackNumbers}
 use Rattle.zapelaritz_c.specs.NumberedCalls.{numberedRollback}
-use Rattle.zapelaritz_c.proofs.Laws.Numbers.{stays, made, written, call-left}
+use Rattle.zapelaritz_c.proofs.Laws.NumberedCalls.{stays, made, written, call-left}
 use borrow.Author.Needs.{needs}
 use Rattle.zapelaritz_c.proofs.calls.zapelaritz_rollback.Statement.{statement}
 use Rattle.zapelaritz_c.proofs.calls.zapelaritz_rollback.Tie as tie

@@ -4,7 +4,7 @@ use Rattle.state_test.proofs.Laws.Answers.{passed, failed}
 use Rattle.printing.proofs.Laws.Parts.{starts}
 use Rattle.printing.proofs.Laws.Tables.{readable-passed}
 use Rattle.output.proofs.Laws.Runs.{shows}
-use Rattle.zapelaritz_c.proofs.Laws.Numbers.{print-bad, print-good}
+use Rattle.zapelaritz_c.proofs.Laws.NumberedCalls.{print-bad, print-good}
 use borrow.Author.Needs.{needs}
 use Rattle.zapelaritz_c.proofs.print.print_model.Statement.{statement}
 use Rattle.zapelaritz_c.proofs.print.print_model.Tie as tie

@@ -1,7 +1,7 @@
 -- `print::zapelaritz_print_model` meets its contract. Assumes nothing.
 use mathlib.Core.Path.{ap}
 use Rattle.zapelaritz_c.specs.NumberedCalls.{PrintLeft, numberedModel}
-use Rattle.zapelaritz_c.proofs.Laws.Numbers.{stays, made, written}
+use Rattle.zapelaritz_c.proofs.Laws.NumberedCalls.{stays, made, written}
 use borrow.Author.Needs.{needs}
 use Rattle.zapelaritz_c.proofs.print.zapelaritz_print_model.Statement.{statement}
 use Rattle.zapelaritz_c.proofs.print.zapelaritz_print_model.Tie as tie

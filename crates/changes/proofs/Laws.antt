@@ -1,9 +1,0 @@
-pub mod Log
-pub mod Once
-pub mod Places
-pub mod Runs
-pub mod Entering
-pub mod Together
-pub mod Undo
-pub mod Imports
-pub mod Range

@@ -1,0 +1,2 @@
+// The import of elements.
+pub mod import;

@@ -1,0 +1,2 @@
+// The insert range of a content list.
+pub mod range;

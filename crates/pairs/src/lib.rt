@@ -1,0 +1,2 @@
+// What becomes of a pair: the extension, or the fallback.
+pub mod settle;
