@@ -28,6 +28,8 @@ use Rattle.deck.specs.declared.lines.RowCells.{RowCells}
 use Rattle.deck.specs.declared.lines.FileCells.{FileCells}
 use Rattle.deck.specs.declared.lines.Line as program
 use Rattle.deck.specs.declared.lines.Line.the-variants.{T, G, S, F, M, B, E, C, Bad}
+use Rattle.deck.specs.declared.reader.LineEnd.{LineEnd}
+use Rattle.deck.specs.declared.reader.LineEnd.the-variants.{At, Missing}
 use Rattle.deck.specs.declared.reader.NextLine.{NextLine}
 use Rattle.deck.specs.declared.reader.NextLine.the-variants.{Whole, Open}
 
@@ -171,6 +173,11 @@ pub record LineAt (deck : List ℕ) (at : ℕ) (line : program.Line) (behind : �
   pub within : end < length deck
   pub reads : LineReads line (readLine (partAt deck at end))
   pub is : behind ≡ end + 1
+
+-- the line from the byte at ends at an LF, or has none
+abbrev pub EndReads : List ℕ → ℕ → LineEnd → Type 0
+EndReads deck at (At end) = Next deck 10 at (length deck) end × (end < length deck)
+EndReads deck at Missing = Next deck 10 at (length deck) (length deck)
 
 -- what stands from the byte at on
 abbrev pub NextReads : List ℕ → ℕ → NextLine → Type 0
