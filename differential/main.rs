@@ -31,7 +31,16 @@ use with_original::{Order, Tally};
 const USAGE: &str = "usage: differential/run [--decks N] [--seed S] [--source DIR] [--fault N | --faults | --sample FOLDER | --times [DECK...]]";
 
 /// Their decks are compared in every run.
-const FOLDERS: [&str; 4] = ["crates/decks/data", "crates/merge_bench/data", "crates/load_bench/data", "examples"];
+const FOLDERS: [&str; 8] = [
+    "crates/decks/data/load",
+    "crates/decks/data/merge",
+    "crates/decks/data/calls",
+    "crates/decks/data/requests",
+    "crates/decks/data/original",
+    "crates/forged/data",
+    "crates/merge_bench/data",
+    "crates/load_bench/data",
+];
 
 /// For faults, one in so many of the small decks is taken.
 const SMALL_STEP: usize = 20;

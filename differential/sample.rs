@@ -21,10 +21,10 @@ const LENGTHS: [usize; 2] = [1_200, 6_000];
 const SEEDS: std::ops::Range<u64> = 1..20_001;
 const SMALL_STEP: usize = 97;
 
-/// Writes into a folder the decks, `args` with their names and `stdout` with their names and lines.
+/// Writes into a folder the decks with their answers beside them, and their lines for `crates/decks/data/list`.
 pub fn write(folder: &Path) -> std::io::Result<()> {
     let mut kinds: HashMap<&str, u64> = HashMap::new();
-    let [mut names, mut lines] = [String::new(), String::new()];
+    let mut names = String::new();
     let mut count = 0;
     let mut take = |name: String, deck: &[u8]| -> std::io::Result<()> {
         let Some(answer) = answers(deck) else {
@@ -35,10 +35,9 @@ pub fn write(folder: &Path) -> std::io::Result<()> {
             return Ok(());
         }
         met.into_iter().for_each(|kind| *kinds.entry(kind).or_default() += 1);
-        let name = format!("original_{name}.deck");
-        fs::write(folder.join(&name), deck)?;
-        names += &format!("{name}\n");
-        lines += &format!("{name}\n{answer}");
+        fs::write(folder.join(format!("{name}.deck")), deck)?;
+        fs::write(folder.join(format!("{name}.out")), answer)?;
+        names += &format!("original/{name}\n");
         count += 1;
         Ok(())
     };
@@ -48,13 +47,12 @@ pub fn write(folder: &Path) -> std::io::Result<()> {
     for length in LENGTHS {
         for seed in SEEDS {
             let deck = decks::deck(seed);
-            if deck.len() <= length && !folder.join(format!("original_{seed}.deck")).exists() {
+            if deck.len() <= length && !folder.join(format!("{seed}.deck")).exists() {
                 take(seed.to_string(), &deck)?;
             }
         }
     }
-    fs::write(folder.join("args"), names)?;
-    fs::write(folder.join("stdout"), lines)?;
+    fs::write(folder.join("list"), names)?;
     println!("{count} decks, {} kinds", kinds.len());
     for (kind, _) in kinds_not_in(&kinds) {
         println!("in no deck of the sample: {kind}");

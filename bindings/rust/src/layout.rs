@@ -151,7 +151,10 @@ mod tests {
 
     #[test]
     fn sizes_by_hand() {
-        assert_eq!(schema::SIZE, 4 + 128 * 3 + 128 * 6 + 512 * 9 + 64 * 2 + 3 * 1024);
+        assert_eq!(
+            schema::SIZE,
+            4 + 128 * 3 + 128 * 6 + 512 * 9 + 64 * 2 + 3 * 1024
+        );
         assert_eq!(elements::SIZE, 3 + 1024 * 3 + 2048 * 2 + 64 * 2);
         assert_eq!(model::SIZE, 1 + 1024 + 1025 + 2048 + 1024);
         assert_eq!(log::SIZE, 1 + 1024 * 5);

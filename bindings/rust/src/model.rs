@@ -327,8 +327,9 @@ mod tests {
     #[test]
     fn mark_is_the_librarys() {
         let mut marks = 0;
-        for entry in std::fs::read_dir(DECKS).unwrap() {
-            let deck = std::fs::read(entry.unwrap().path()).unwrap();
+        let list = std::fs::read_to_string(format!("{DECKS}/list")).unwrap();
+        for name in list.lines().filter(|line| !line.contains(' ')) {
+            let deck = std::fs::read(format!("{DECKS}/{name}.deck")).unwrap();
             let Ok(mut model) = Model::load(&deck) else {
                 continue;
             };

@@ -9,7 +9,7 @@ use zapelaritz::{Model, Refusal};
 /// imported, `doors` restricted (it has no set), `engine` and the root extended.
 #[test]
 fn merged_marked_withdrawn_and_merged_again() {
-    let mut model = load("named.deck");
+    let mut model = load("merge/named.deck");
     assert_eq!(model.mark(), 0);
     assert_eq!(merge(&mut model, 1), Ok([1, 1, 1]));
     let mark = model.mark();
@@ -33,7 +33,7 @@ fn merged_marked_withdrawn_and_merged_again() {
 /// A refused delivery between two accepted ones leaves no trace, and a rollback does not count it.
 #[test]
 fn refused_between() {
-    let mut model = load("trees_refusal_between.deck");
+    let mut model = load("merge/trees_refusal_between.deck");
     assert_eq!(merge(&mut model, 1), Ok([1, 0, 1]));
     let before = model.clone();
     assert_eq!(
@@ -54,18 +54,18 @@ fn refused_between() {
 #[test]
 fn refused_merges_change_nothing() {
     for (name, first, file, refusal) in [
-        ("step_1.deck", &[] as &[u64], 1, Refusal::NotWaiting),
-        ("printed.deck", &[1], 1, Refusal::NotWaiting),
-        ("printed.deck", &[], 0, Refusal::NotWaiting),
-        ("printed.deck", &[], u64::MAX, Refusal::NotWaiting),
+        ("merge/step_1.deck", &[] as &[u64], 1, Refusal::NotWaiting),
+        ("merge/printed.deck", &[1], 1, Refusal::NotWaiting),
+        ("merge/printed.deck", &[], 0, Refusal::NotWaiting),
+        ("merge/printed.deck", &[], u64::MAX, Refusal::NotWaiting),
         (
-            "refusal_6.deck",
+            "merge/refusal_6.deck",
             &[],
             1,
             Refusal::Unmergeable { element: 0 },
         ),
         (
-            "refusal_7.deck",
+            "merge/refusal_7.deck",
             &[],
             1,
             Refusal::NotInVersion {
@@ -73,9 +73,14 @@ fn refused_merges_change_nothing() {
                 name: 3,
             },
         ),
-        ("refusal_8.deck", &[], 1, Refusal::UsedTwice { element: 6 }),
-        ("refusal_9.deck", &[1, 2, 3], 4, Refusal::LogFull),
-        ("refusal_10.deck", &[], 1, Refusal::ContentFull),
+        (
+            "merge/refusal_8.deck",
+            &[],
+            1,
+            Refusal::UsedTwice { element: 6 },
+        ),
+        ("calls/refusal_9.deck", &[1, 2, 3], 4, Refusal::LogFull),
+        ("calls/refusal_10.deck", &[], 1, Refusal::ContentFull),
     ] {
         let mut model = load(name);
         for file in first {
@@ -147,7 +152,7 @@ fn every_other_number_is_no_mark() {
 /// A list of merges and rollbacks; the book of document 01 says which merges stand.
 #[test]
 fn a_long_list_of_calls() {
-    let mut model = load("slip_merge_or_rollback_of_nothing.deck");
+    let mut model = load("merge/slip_merge_or_rollback_of_nothing.deck");
     let loaded = model.clone();
     let mut book: Vec<u64> = Vec::new();
     for step in 0..300_u64 {
@@ -171,7 +176,7 @@ fn a_long_list_of_calls() {
 /// A clone is a model of its own.
 #[test]
 fn clones_are_apart() {
-    let loaded = load("printed.deck");
+    let loaded = load("merge/printed.deck");
     let mut model = loaded.clone();
     model.merge(1).unwrap();
     assert_ne!(model, loaded);

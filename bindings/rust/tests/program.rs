@@ -1,73 +1,41 @@
-//! The runs of the test program `crates/decks`: for each deck and list of calls of its file `args`, the lines of its file
-//! `stdout`, from the printing functions and from calls on a `Model`.
+//! The cases of the test program `crates/decks`: for each deck, with its list of calls where it has one, the answer that stands beside it, from the
+//! printing functions and from calls on a `Model`.
 
 mod common;
 
 use std::collections::HashMap;
+use std::fs;
 use std::io::Write;
 use std::thread::Builder;
 
-use common::{check_reading, data, loadable, read, tree_lines, waiting_files};
+use common::{cases, check_reading, data, loadable, repository, tree_lines, waiting_files};
 use zapelaritz::{calls_output, output, Entry, Model, Refusal};
 
-/// A deck, and the list of calls that it is run with; without one, each delivery is merged.
-struct Run {
-    deck: String,
-    calls: Option<String>,
-}
-
-/// A list stands for all decks behind it, until another list or the word `merge` follows.
-fn runs() -> Vec<Run> {
-    let words = String::from_utf8(read("crates/decks/args")).unwrap();
-    let mut calls = None;
-    let mut runs = Vec::new();
-    for word in words.lines() {
-        if word.ends_with(".deck") {
-            runs.push(Run {
-                deck: word.to_string(),
-                calls: calls.clone(),
-            });
-        } else {
-            assert!(word.ends_with(".calls") || word == "merge", "{word}");
-            calls = word.ends_with(".calls").then(|| word.to_string());
+/// Holds what `print` gives for each case to its answer. A case without a list of calls has each delivery merged.
+fn hold_to_the_answers(print: impl Fn(&[u8], Option<&[u8]>) -> Vec<u8>) {
+    for (case, deck) in cases() {
+        let calls = fs::read(repository(&format!("crates/decks/data/{case}.calls"))).ok();
+        let printed = print(&data(&format!("{deck}.deck")), calls.as_deref());
+        let expected = data(&format!("{case}.out"));
+        if printed != expected {
+            let [printed, expected] =
+                [printed, expected].map(|text| String::from_utf8_lossy(&text).into_owned());
+            panic!("{case}: got\n{printed}\nwhere the answer is\n{expected}");
         }
     }
-    assert!(runs.len() > 600, "{} runs", runs.len());
-    runs
-}
-
-/// Holds what `print` gives for each run to the program's lines.
-fn hold_to_the_program(print: impl Fn(&[u8], Option<&[u8]>) -> Vec<u8>) {
-    let expected = read("crates/decks/stdout");
-    let mut rest = expected.as_slice();
-    for run in runs() {
-        let calls = run.calls.as_deref();
-        let name = [Some(run.deck.as_str()), calls];
-        let name = name.into_iter().flatten().collect::<Vec<_>>().join(" ");
-        let list = calls.map(data);
-        let printed = print(&data(&run.deck), list.as_deref());
-        let lines = [name.as_bytes(), b"\n", &printed].concat();
-        rest = rest.strip_prefix(lines.as_slice()).unwrap_or_else(|| {
-            let length = (lines.len() + 80).min(rest.len());
-            let [lines, rest] =
-                [&lines, &rest[..length]].map(|text| String::from_utf8_lossy(text).into_owned());
-            panic!("{name}: got\n{lines}\nwhere the program prints\n{rest}");
-        });
-    }
-    assert_eq!(rest, b"", "the program prints more");
 }
 
 #[test]
-fn printed_output_is_the_programs() {
-    hold_to_the_program(|deck, calls| match calls {
+fn printed_output_is_the_answers() {
+    hold_to_the_answers(|deck, calls| match calls {
         None => output(deck),
         Some(calls) => calls_output(deck, calls),
     });
 }
 
 #[test]
-fn calls_on_a_model_are_the_programs() {
-    hold_to_the_program(|deck, calls| {
+fn calls_on_a_model_are_the_answers() {
+    hold_to_the_answers(|deck, calls| {
         let mut model = match Model::load(deck) {
             Ok(model) => model,
             Err(error) => return format!("deck,{},{}\n", error.number(), error.line()).into(),
@@ -227,7 +195,7 @@ fn every_deck_is_read_as_it_is_printed() {
 /// An output that is printed in several parts.
 #[test]
 fn a_long_output() {
-    let deck = data("printed.deck");
+    let deck = data("merge/printed.deck");
     let model = b"E,0,0,1\nE,1,3,0\nC,2,s,p\n";
     let printed = calls_output(&deck, &b"model\n".repeat(20_000));
     assert!(printed == model.repeat(20_000));
@@ -239,9 +207,9 @@ fn deep_trees_on_a_thread() {
     let thread = Builder::new().stack_size(2 << 20);
     let run = || {
         for name in [
-            "depth_31_import.deck",
-            "depth_31_conflict.deck",
-            "depth_31_fallback.deck",
+            "calls/depth_31_import.deck",
+            "calls/depth_31_conflict.deck",
+            "calls/depth_31_fallback.deck",
         ] {
             assert_ne!(output(&data(name)), b"");
             assert_ne!(calls_output(&data(name), b"merge,1\n"), b"");
@@ -252,8 +220,8 @@ fn deep_trees_on_a_thread() {
 
 /// The test program's decks that load, as text.
 fn loaded_texts() -> impl Iterator<Item = (String, Model)> {
-    runs().into_iter().filter_map(|run| {
-        let deck = data(&run.deck);
+    cases().into_iter().filter_map(|(_, deck)| {
+        let deck = data(&format!("{deck}.deck"));
         let model = Model::load(&deck).ok()?;
         Some((String::from_utf8(deck).unwrap(), model))
     })

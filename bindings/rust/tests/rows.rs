@@ -10,17 +10,20 @@ const EXAMPLE: &[u8] = b"E,0,0,3\nE,1,3,1\nC,2,s,p\nE,1,3,2\nC,2,s,q\nE,1,4,2\nC
 
 #[test]
 fn the_example() {
-    let mut model = load("printed.deck");
+    let mut model = load("merge/printed.deck");
     assert_eq!(merge(&mut model, 1), Ok([2, 1, 1]));
     assert_eq!(model.model_lines(), EXAMPLE);
     let output = [b"merged,1,2,1,1\n", EXAMPLE].concat();
-    assert_eq!(zapelaritz::output(&common::data("printed.deck")), output);
+    assert_eq!(
+        zapelaritz::output(&common::data("merge/printed.deck")),
+        output
+    );
 }
 
 /// Elements in the order of the deck: the model's root 0 with 1, the delivery's root 2 with 3 and 4.
 #[test]
 fn the_example_read() {
-    let mut model = load("printed.deck");
+    let mut model = load("merge/printed.deck");
     let numbers: Vec<u64> = model.elements().map(|element| element.number()).collect();
     assert_eq!(numbers, [0, 1]);
     let tree = model.waiting().next().unwrap();
@@ -85,7 +88,7 @@ fn the_example_read() {
 
 #[test]
 fn the_example_rolled_back() {
-    let loaded = load("printed.deck");
+    let loaded = load("merge/printed.deck");
     let mut merged = loaded.clone();
     merged.merge(1).unwrap();
 
@@ -107,11 +110,11 @@ fn ranges() {
     let places = |first, last| Ok(Places { first, last });
     let none = Err(Refusal::NoPlace { element: 0 });
     for (name, expected) in [
-        ("range_sequence_mult_2.deck", places(1, 2)),
-        ("range_sequence_mult_0.deck", none),
-        ("range_sequence_empty.deck", places(0, 0)),
-        ("range_choice_with_another_path.deck", none),
-        ("range_bag_of_3.deck", places(0, 3)),
+        ("calls/range_sequence_mult_2.deck", places(1, 2)),
+        ("calls/range_sequence_mult_0.deck", none),
+        ("calls/range_sequence_empty.deck", places(0, 0)),
+        ("calls/range_choice_with_another_path.deck", none),
+        ("calls/range_bag_of_3.deck", places(0, 3)),
     ] {
         assert_eq!(load(name).range(0, 4, 2), expected, "{name}");
     }
@@ -120,7 +123,7 @@ fn ranges() {
 /// Range: 11, 12, 7 and 13, each with what it carries.
 #[test]
 fn refusals_of_range() {
-    let model = load("printed.deck");
+    let model = load("merge/printed.deck");
     assert_eq!(model.range(5, 3, 2), Err(Refusal::NoSuchElement));
     assert_eq!(model.range(0, 3, 32), Err(Refusal::NoSuchElement));
     let characters = Refusal::CharactersParent { element: 1 };
@@ -139,23 +142,23 @@ fn merges() {
     let counts = |imports, restrictions, extensions| Ok([imports, restrictions, extensions]);
     let unmergeable = |element| Err(Refusal::Unmergeable { element });
     for (name, expected) in [
-        ("named_x_y_against_y_x.deck", counts(0, 0, 1)),
-        ("named_x_against_y.deck", unmergeable(0)),
-        ("named_x_against_y_splittable.deck", counts(1, 1, 1)),
+        ("merge/named_x_y_against_y_x.deck", counts(0, 0, 1)),
+        ("merge/named_x_against_y.deck", unmergeable(0)),
+        ("merge/named_x_against_y_splittable.deck", counts(1, 1, 1)),
         (
-            "definitions_d_d_against_e_d.deck",
+            "merge/definitions_d_d_against_e_d.deck",
             Err(Refusal::UsedTwice { element: 8 }),
         ),
-        ("choice_c1_against_c2_mult_2.deck", counts(1, 1, 1)),
-        ("choice_c1_against_c2_mult_0.deck", unmergeable(1)),
+        ("merge/choice_c1_against_c2_mult_2.deck", counts(1, 1, 1)),
+        ("merge/choice_c1_against_c2_mult_0.deck", unmergeable(1)),
         (
-            "mask_4_new_version_3.deck",
+            "merge/mask_4_new_version_3.deck",
             Err(Refusal::NotInVersion {
                 element: 0,
                 name: 3,
             }),
         ),
-        ("mask_4_new_version_2.deck", counts(1, 0, 1)),
+        ("merge/mask_4_new_version_2.deck", counts(1, 0, 1)),
     ] {
         let mut model = load(name);
         let loaded = model.clone();
@@ -169,11 +172,11 @@ fn merges() {
 fn models_where_both_are_kept() {
     for (name, lines) in [
         (
-            "named_x_against_y_splittable.deck",
+            "merge/named_x_against_y_splittable.deck",
             "E,0,0,3\nE,1,3,1\nE,2,1,0\nC,3,s,x\nE,1,3,2\nE,2,1,0\nC,3,s,y\n",
         ),
         (
-            "choice_c1_against_c2_mult_2.deck",
+            "merge/choice_c1_against_c2_mult_2.deck",
             "E,0,0,3\nE,1,3,1\nE,2,4,0\nE,1,3,2\nE,2,5,0\n",
         ),
     ] {
@@ -186,12 +189,21 @@ fn models_where_both_are_kept() {
 #[test]
 fn refusals_of_load() {
     let refused = |name: &str| Model::load(&common::data(name)).unwrap_err();
-    assert_eq!(refused("refusal_1.deck"), LoadError::Form { line: 1 });
-    assert_eq!(refused("refusal_2.deck"), LoadError::SchemaRule { line: 1 });
-    assert_eq!(refused("refusal_3.deck"), LoadError::TreeRule { line: 1 });
-    assert_eq!(refused("refusal_4.deck"), LoadError::Limit { line: 1 });
-    assert_eq!(refused("empty_deck.deck"), LoadError::TreeRule { line: 0 });
-    let long = refused("limit_bytes_32769.deck");
+    assert_eq!(refused("load/refusal_1.deck"), LoadError::Form { line: 1 });
+    assert_eq!(
+        refused("load/refusal_2.deck"),
+        LoadError::SchemaRule { line: 1 }
+    );
+    assert_eq!(
+        refused("load/refusal_3.deck"),
+        LoadError::TreeRule { line: 1 }
+    );
+    assert_eq!(refused("load/refusal_4.deck"), LoadError::Limit { line: 1 });
+    assert_eq!(
+        refused("load/empty_deck.deck"),
+        LoadError::TreeRule { line: 0 }
+    );
+    let long = refused("load/limit_bytes_32769.deck");
     assert_eq!(long, LoadError::Limit { line: 0 });
     assert_eq!(long.to_string(), "the deck: a limit is exceeded");
 }
@@ -199,7 +211,7 @@ fn refusals_of_load() {
 /// The deck has each kind of text at the ends of its range.
 #[test]
 fn kinds_of_text() {
-    let model = load("lines_text_kinds.deck");
+    let model = load("load/lines_text_kinds.deck");
     let texts: Vec<Text<'_>> = model.root().texts().collect();
     let (floats, others): (Vec<_>, Vec<_>) = texts
         .iter()
@@ -229,17 +241,17 @@ fn kinds_of_text() {
 
 #[test]
 fn files_and_sets() {
-    let model = load("f_ascending_with_gaps.deck");
+    let model = load("load/f_ascending_with_gaps.deck");
     let files = [(0, 9), (7, 3), (63, 3)].map(|(number, version)| File { number, version });
     assert!(model.files().eq(files));
     assert!(model.root().files().iter().eq([7]));
 
-    let mut model = load("set_of_file_63.deck");
+    let mut model = load("merge/set_of_file_63.deck");
     model.merge(63).unwrap();
     assert!(model.root().files().iter().eq([0, 63]));
     assert_eq!(format!("{:x}", model.root().files()), "8000000000000001");
 
-    let model = load("lines_three_trees.deck");
+    let model = load("load/lines_three_trees.deck");
     assert_eq!(common::waiting_files(&model), [63, 4, 9]);
     let roots: Vec<u64> = model.waiting().map(|tree| tree.root.number()).collect();
     assert_eq!(roots, [1, 3, 4]);
@@ -247,7 +259,7 @@ fn files_and_sets() {
 
 #[test]
 fn a_model_is_shown_short() {
-    let model = load("printed.deck");
+    let model = load("merge/printed.deck");
     let shown = "Model { files: {0}, elements: 2, waiting: 1, log: 0, .. }";
     assert_eq!(format!("{model:?}"), shown);
     let shown = "Element { number: 1, name: 3, depth: 1, files: {}, .. }";
@@ -257,7 +269,7 @@ fn a_model_is_shown_short() {
 #[test]
 fn a_model_may_move_between_threads() {
     fn send_and_sync<T: Send + Sync>(_: &T) {}
-    let model = load("printed.deck");
+    let model = load("merge/printed.deck");
     send_and_sync(&model);
     send_and_sync(&model.elements());
 }

@@ -20,9 +20,21 @@ pub fn read(path: &str) -> Vec<u8> {
     fs::read(repository(path)).unwrap_or_else(|error| panic!("{path}: {error}"))
 }
 
-/// A deck or a list of calls of the test program.
-pub fn data(name: &str) -> Vec<u8> {
-    read(&format!("crates/decks/data/{name}"))
+/// The cases of the test program `crates/decks`: each has a name, and the name of the case whose deck it takes.
+pub fn cases() -> Vec<(String, String)> {
+    let list = String::from_utf8(read("crates/decks/data/list")).unwrap();
+    let names = |line: &str| {
+        let (case, deck) = line.split_once(' ').unwrap_or((line, line));
+        (case.to_string(), deck.to_string())
+    };
+    let cases: Vec<_> = list.lines().map(names).collect();
+    assert!(cases.len() > 1000, "{} cases", cases.len());
+    cases
+}
+
+/// A file of the test program, by its path in `crates/decks/data`.
+pub fn data(path: &str) -> Vec<u8> {
+    read(&format!("crates/decks/data/{path}"))
 }
 
 /// A deck of the test program that loads.
@@ -33,15 +45,13 @@ pub fn load(name: &str) -> Model {
 /// The test program's decks that load, by name.
 pub fn loadable() -> Vec<(String, Model)> {
     let mut decks = Vec::new();
-    for entry in fs::read_dir(repository("crates/decks/data")).unwrap() {
-        let name = entry.unwrap().file_name().into_string().unwrap();
-        if name.ends_with(".deck") {
-            if let Ok(model) = Model::load(&data(&name)) {
-                decks.push((name, model));
+    for (case, deck) in cases() {
+        if case == deck {
+            if let Ok(model) = Model::load(&data(&format!("{deck}.deck"))) {
+                decks.push((deck, model));
             }
         }
     }
-    decks.sort_by(|(a, _), (b, _)| a.cmp(b));
     assert!(decks.len() > 200, "{} decks load", decks.len());
     decks
 }
