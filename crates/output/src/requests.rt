@@ -28,7 +28,7 @@ pub enum Request {
     Bad,
 }
 
-fn same_word(s: &[u8], word: &[u8]) -> bool
+pub fn same_word(s: &[u8], word: &[u8]) -> bool
     ensures { λ r. ⌜ r ≡ sameList (now (s .entry)) (now (word .entry)) ⌝ }
 {
     if s.len() != word.len() {

@@ -1,2 +1,0 @@
-// What the programs that forge tables share.
-pub mod table;
