@@ -1,4 +1,3 @@
-pub mod Requests
 pub mod Answers
 pub mod Entries
 pub mod Replies

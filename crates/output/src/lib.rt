@@ -3,4 +3,3 @@ pub mod answers;
 mod entries;
 pub mod print;
 mod reply;
-pub mod requests;

@@ -2,8 +2,6 @@
 use crate::answers::append_refused_deck;
 use crate::reply::reply;
 use crate::reply::reply_merge;
-use crate::requests::Request;
-use crate::requests::read_request;
 use deck::lines::line_end;
 use load::load::Answer;
 use load::load::load;
@@ -11,6 +9,8 @@ use printing::buffer::Written;
 use printing::buffer::append_bytes;
 use printing::buffer::append_number;
 use printing::trees::append_model;
+use requests::requests::Request;
+use requests::requests::read_request;
 use tables::elements::ELEMENTS_SIZE;
 use tables::elements::tree_count;
 use tables::elements::tree_file;

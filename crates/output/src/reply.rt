@@ -3,13 +3,13 @@ use crate::answers::append_merge;
 use crate::answers::append_range;
 use crate::answers::append_rollback;
 use crate::entries::append_log;
-use crate::requests::Request;
 use merge::calls::merge;
 use merge::calls::range;
 use merge::calls::rollback;
 use printing::buffer::Written;
 use printing::trees::append_model;
 use printing::trees::append_trees;
+use requests::requests::Request;
 ghost use mathlib.Core.Option.{some};
 ghost use mathlib.Core.Path.{_≡_};
 ghost use Rattle.state_test.specs.StateTest.{stateIn};
@@ -18,7 +18,7 @@ ghost use Rattle.merge_rules.specs.CallLists as rules;
 ghost use Rattle.merge_rules.specs.CallLists.{ofCall};
 ghost use Rattle.merge_rules.specs.Standing.{Standing};
 ghost use Rattle.printing.specs.Buffers.{bufferIs};
-ghost use Rattle.output.specs.Answers.{requestIs};
+ghost use Rattle.requests.specs.Requests.{requestIs};
 ghost use Rattle.output.specs.Replies.{Replies};
 
 pub fn reply_merge(

@@ -24,11 +24,12 @@ use Rattle.printing.specs.Buffers.{Buffer, Appends}
 use Rattle.printing.specs.TreeLines.{Readable}
 use Rattle.printing.proofs.Laws.Buffers.{reads}
 use Rattle.printing.proofs.Laws.Tables.{readable-passed}
-use Rattle.output.specs.Answers.{mergeText, rollbackText, rangeText, requestIs}
+use Rattle.output.specs.Answers.{mergeText, rollbackText, rangeText}
+use Rattle.requests.specs.Requests.{requestIs}
 use Rattle.output.specs.Replies.{Replies}
-use Rattle.output.specs.declared.requests.Request as program
-use Rattle.output.specs.declared.requests.Request.the-variants.{Merge, Rollback, Range, Model, Trees, Log, Bad}
-use Rattle.output.proofs.requests.Request.{the-type}
+use Rattle.requests.specs.declared.requests.Request as program
+use Rattle.requests.specs.declared.requests.Request.the-variants.{Merge, Rollback, Range, Model, Trees, Log, Bad}
+use Rattle.requests.proofs.requests.Request.{the-type}
 
 module _ {deck schema elements model log : List ℕ} (h : Standing deck schema elements model log) where
   -- the tables stay as they are

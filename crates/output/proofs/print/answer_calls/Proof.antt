@@ -9,7 +9,7 @@ use Rattle.merge_rules.specs.CallLists.{callLines}
 use Rattle.printing.specs.Buffers.{bufferIs}
 use Rattle.printing.proofs.Laws.Buffers.{as-long}
 use borrow.Author.Needs.{needs}
-use Rattle.output.specs.Answers.{requestIs}
+use Rattle.requests.specs.Requests.{requestIs}
 use Rattle.output.proofs.Laws.Replies.{not-bad}
 use Rattle.output.proofs.Laws.Runs.{CallsLeft, calls-begin, calls-full, calls-end, calls-open, calls-bad, calls-turn}
 use Rattle.output.proofs.print.answer_calls.Statement.{statement}

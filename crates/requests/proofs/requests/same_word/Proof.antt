@@ -5,9 +5,9 @@ use lib.ListN.{length, drop}
 use borrow.Author.Needs.{needs}
 use Rattle.tables.specs.Lists.{sameList}
 use Rattle.tables.proofs.Laws.Texts.{lengths-differ}
-use Rattle.output.proofs.Laws.Requests.{word-end, word-differs, word-more}
-use Rattle.output.proofs.requests.same_word.Statement.{statement}
-use Rattle.output.proofs.requests.same_word.Tie as tie
+use Rattle.requests.proofs.Laws.Requests.{word-end, word-differs, word-more}
+use Rattle.requests.proofs.requests.same_word.Statement.{statement}
+use Rattle.requests.proofs.requests.same_word.Tie as tie
 
 abbrev Inv-loop : tie.InvT-loop
 Inv-loop s word i₀ i = sameList s word ≡ sameList (drop i s) (drop i word)

@@ -2,8 +2,8 @@
 use borrow.Author.Needs.{needs}
 use Rattle.deck.specs.Deck.{decimal}
 use Rattle.merge_rules.specs.CallLists.{wordField}
-use Rattle.output.proofs.requests.word_at.Statement.{statement}
-use Rattle.output.proofs.requests.word_at.Tie as tie
+use Rattle.requests.proofs.requests.word_at.Statement.{statement}
+use Rattle.requests.proofs.requests.word_at.Tie as tie
 
 returns : tie.Need-returns
 unfolding wordField decimal

@@ -1,9 +1,9 @@
 -- `requests::line_alone` meets its contract. Assumes nothing.
 use mathlib.Core.Path.{_∙_}
 use Rattle.merge_rules.specs.CallLists.{lineAlone}
-use Rattle.output.proofs.Laws.Requests.{count-other, count-due}
-use Rattle.output.proofs.requests.line_alone.Statement.{statement}
-use Rattle.output.proofs.requests.line_alone.Tie as tie
+use Rattle.requests.proofs.Laws.Requests.{count-other, count-due}
+use Rattle.requests.proofs.requests.line_alone.Statement.{statement}
+use Rattle.requests.proofs.requests.line_alone.Tie as tie
 
 returns : tie.Need-returns
 unfolding lineAlone

@@ -15,7 +15,7 @@ ghost use Rattle.deck.specs.Deck.{field};
 ghost use Rattle.deck.specs.Answers.{partAt, fieldsOf, Placed, numIs};
 ghost use Rattle.merge_rules.specs.CallLists.{wordField, lineMerge, lineRollback, lineRange, lineAlone, byWord, readRequest};
 ghost use Rattle.merge_rules.specs.CallLists as rules;
-ghost use Rattle.output.specs.Answers.{requestIs};
+ghost use Rattle.requests.specs.Requests.{requestIs};
 
 pub enum Request {
     Merge(u64),

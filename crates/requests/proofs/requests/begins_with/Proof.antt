@@ -5,8 +5,8 @@ use borrow.Author.Needs.{needs}
 use Rattle.tables.specs.Lists.{sameList}
 use Rattle.deck.specs.Deck.{Part, field}
 use Rattle.deck.specs.Answers.{fieldsOf, SpanOf}
-use Rattle.output.proofs.requests.begins_with.Statement.{statement}
-use Rattle.output.proofs.requests.begins_with.Tie as tie
+use Rattle.requests.proofs.requests.begins_with.Statement.{statement}
+use Rattle.requests.proofs.requests.begins_with.Tie as tie
 
 -- the places are those of the first field
 span : (c : tie.After-places) → SpanOf (c .before .before .before .args .calls .now) (field (fieldsOf (c .before .before .before .args .calls .now) (c .before .before .before .args .f)) 0) (c .places .result)

@@ -8,9 +8,9 @@ use Rattle.tables.specs.Lists.{firstOf}
 use Rattle.deck.specs.Deck.{Part, field}
 use Rattle.deck.specs.Answers.{fieldsOf}
 use Rattle.merge_rules.specs.CallLists.{lineMerge, lineRollback, lineRange, lineAlone, ofModel, ofTrees, ofLog, words, byWord}
-use Rattle.output.proofs.Laws.Requests.{Word, readBy, word-here, word-behind}
-use Rattle.output.proofs.requests.by_word.Statement.{statement}
-use Rattle.output.proofs.requests.by_word.Tie as tie
+use Rattle.requests.proofs.Laws.Requests.{Word, readBy, word-here, word-behind}
+use Rattle.requests.proofs.requests.by_word.Statement.{statement}
+use Rattle.requests.proofs.requests.by_word.Tie as tie
 
 abbrev fieldsAt : tie.Start → List Part
 fieldsAt s = fieldsOf (s .args .calls .now) (s .args .f)

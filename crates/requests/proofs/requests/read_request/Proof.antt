@@ -2,9 +2,9 @@
 use mathlib.Core.Path.{_∙_}
 use borrow.Author.Needs.{needs}
 use Rattle.deck.specs.Answers.{partAt}
-use Rattle.output.proofs.Laws.Requests.{request-read}
-use Rattle.output.proofs.requests.read_request.Statement.{statement}
-use Rattle.output.proofs.requests.read_request.Tie as tie
+use Rattle.requests.proofs.Laws.Requests.{request-read}
+use Rattle.requests.proofs.requests.read_request.Statement.{statement}
+use Rattle.requests.proofs.requests.read_request.Tie as tie
 
 by-word-requires : tie.Need-by-word-requires
 by-word-requires c κs = c .split .ensures .placed
