@@ -1,16 +1,13 @@
 // Runs the scripts that data/list names and holds what each prints to the file of its answers; steps.rt has their language. They put numbers
 // into the tables that no load and no call would, and show what tests and calls say of them. Machine words, floats and bytes come first.
-mod areas;
-mod cells;
 mod lent;
-mod lines;
 mod script;
 mod state;
 mod steps;
-mod words;
 
-use crate::cells::cut_bytes;
 use deck::lines::line_end;
+use scripts::cells::cut_bytes;
+use scripts::words;
 use streams::answers::held;
 use streams::answers::read_file;
 use streams::answers::word;

@@ -1,5 +1,4 @@
 // A script run line by line.
-use crate::areas::ALL_CELLS;
 use crate::state::State;
 use crate::state::begin;
 use crate::state::output;
@@ -7,6 +6,7 @@ use crate::steps::step;
 use deck::lines::line_end;
 use printing::buffer::append_bytes;
 use printing::buffer::append_number;
+use scripts::areas::ALL_CELLS;
 use streams::buffer::deck_buffer;
 
 // `bad,line`; the count of bytes printed.

@@ -1,5 +1,4 @@
 // What a run can still show of functions that are held to equations: machine words, floats and bytes as compiled.
-use streams::answers::word;
 use tables::file_set::FileSet;
 use tables::limits::FILE_LIMIT;
 use tables::numbers::FileNumber;
@@ -10,6 +9,10 @@ use tables::text::Place;
 use tables::text::Text;
 
 // ---- what is printed: words, and numbers each behind a space
+
+fn word(s: &[u8]) {
+    io::write_all(libc::STDOUT_FILENO, s);
+}
 
 fn number(n: u64) {
     word(b" ");

@@ -1,7 +1,7 @@
 -- `lines::span` meets its contract. Assumes nothing.
 use borrow.Author.Needs.{needs}
-use Rattle.forged.proofs.lines.span.Statement.{statement}
-use Rattle.forged.proofs.lines.span.Tie as tie
+use Rattle.scripts.proofs.lines.span.Statement.{statement}
+use Rattle.scripts.proofs.lines.span.Tie as tie
 
 returns : tie.Need-returns
 returns c =

@@ -2,8 +2,8 @@
 use Prim.Native.Nat.{_-_, _≤_}
 use lib.ListN.{length}
 use borrow.Author.Needs.{needs}
-use Rattle.forged.proofs.cells.not_zero.Statement.{statement}
-use Rattle.forged.proofs.cells.not_zero.Tie as tie
+use Rattle.scripts.proofs.cells.not_zero.Statement.{statement}
+use Rattle.scripts.proofs.cells.not_zero.Tie as tie
 
 abbrev Inv-loop : tie.InvT-loop
 Inv-loop table n₀ i₀ n i = (n ≤ i) × (i ≤ length table)

@@ -1,25 +1,24 @@
--- `cells::copy` is safe and ends: the cells keep their length. Assumes nothing.
+-- `cells::show` is safe and ends: the buffer keeps its length. Assumes nothing.
 use mathlib.Core.Path.{_≡_}
 use Prim.Native.Nat.{_-_}
 use lib.ListN.{length}
 use borrow.Author.Needs.{needs}
-use Rattle.forged.proofs.cells.copy.Statement.{statement}
-use Rattle.forged.proofs.cells.copy.Tie as tie
+use Rattle.scripts.proofs.cells.show.Statement.{statement}
+use Rattle.scripts.proofs.cells.show.Tie as tie
 
 abbrev Inv-loop : tie.InvT-loop
-Inv-loop cells₀ from to n i₀ cells i = length cells ≡ length cells₀
+Inv-loop cells a row rows out₀ end k₀ i₀ out k i = length out ≡ length out₀
 
 abbrev μ-loop : tie.MeasureT-loop
-μ-loop cells₀ from to n i₀ cells i = n - i
+μ-loop cells a row rows out₀ end k₀ i₀ out k i = end - i
 
-pub copy-spec : {M : Type 1} → statement M
-copy-spec =
+pub show-spec : {M : Type 1} → statement M
+show-spec =
     tie.close
     (tie.spec
     Inv-loop
     μ-loop
     (λ c. search needs)
-    (λ c κs. search needs)
     (λ c κs. search needs)
     (λ c κs. search needs)
     (λ c κs. search needs)

@@ -1,6 +1,6 @@
 // The four tables in one array, one behind the other, each with a cell more than it has; behind them those that are kept, and those of before
 // the last call. And the areas of the tables by their names.
-use output::requests::same_word;
+use requests::requests::same_word;
 use tables::elements::ELEMENT_WIDTH;
 use tables::elements::ELEMENTS_AT;
 use tables::elements::ELEMENTS_SIZE;

@@ -3,8 +3,8 @@ use mathlib.Core.Path.{refl}
 use Rattle.tables.specs.Index.{emptyIndex}
 use Rattle.table_test.proofs.Laws.IndexTest.{counted}
 use borrow.Author.Needs.{needs}
-use Rattle.forged.proofs.cells.reindex_schema.Statement.{statement}
-use Rattle.forged.proofs.cells.reindex_schema.Tie as tie
+use Rattle.scripts.proofs.cells.reindex_schema.Statement.{statement}
+use Rattle.scripts.proofs.cells.reindex_schema.Tie as tie
 
 fill-index-requires : tie.Need-fill-index-requires
 unfolding emptyIndex

@@ -1,17 +1,19 @@
--- `cells::same` is safe and ends. Assumes nothing.
+-- `cells::copy` is safe and ends: the cells keep their length. Assumes nothing.
+use mathlib.Core.Path.{_≡_}
 use Prim.Native.Nat.{_-_}
+use lib.ListN.{length}
 use borrow.Author.Needs.{needs}
-use Rattle.forged.proofs.cells.same.Statement.{statement}
-use Rattle.forged.proofs.cells.same.Tie as tie
+use Rattle.scripts.proofs.cells.copy.Statement.{statement}
+use Rattle.scripts.proofs.cells.copy.Tie as tie
 
 abbrev Inv-loop : tie.InvT-loop
-Inv-loop cells from other n i₀ i = Unit {0}
+Inv-loop cells₀ from to n i₀ cells i = length cells ≡ length cells₀
 
 abbrev μ-loop : tie.MeasureT-loop
-μ-loop cells from other n i₀ i = n - i
+μ-loop cells₀ from to n i₀ cells i = n - i
 
-pub same-spec : {M : Type 1} → statement M
-same-spec =
+pub copy-spec : {M : Type 1} → statement M
+copy-spec =
     tie.close
     (tie.spec
     Inv-loop
