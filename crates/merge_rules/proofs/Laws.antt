@@ -34,3 +34,5 @@ pub mod Growing
 pub mod Forest
 pub mod Back
 pub mod WholeBack
+pub mod Reached
+pub mod Visited

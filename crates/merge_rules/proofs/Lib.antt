@@ -7,3 +7,4 @@ pub mod TableWithdrawal
 pub mod Depth
 pub mod PrintsBack
 pub mod Refused
+pub mod Reached

@@ -19,3 +19,4 @@ pub mod CallLists
 pub mod CallRows
 pub mod Depth
 pub mod Refused
+pub mod Reached

@@ -148,7 +148,7 @@ module _ (x : Fixed) (s : State) (inv : Inv x s) (tr : Tree) (among : In tr (x .
 
   module _ (files : FileSet) (a b : Element) (t : State) (ready : Ready x start (tr .root) files a b t) where
     -- these children of a and b are still to come
-    abbrev Pending : List Element → List Element → State → Type 0
+    abbrev pub Pending : List Element → List Element → State → Type 0
     Pending as′ cs u = MergeSteps x start (UnderExcept start a as′) (StrictlyUnderExcept start b cs) b t u
 
     -- behind a step of the level these are still to come, or a path of changes ends in a conflict
@@ -165,15 +165,15 @@ module _ (x : Fixed) (s : State) (inv : Inv x s) (tr : Tree) (among : In tr (x .
     unfolding childrenOf
     childrenA = ap children (ready .listsA a (here refl))
 
-    childrenB : childrenOf (t .model) b ≡ childrenOf start b
+    pub childrenB : childrenOf (t .model) b ≡ childrenOf start b
     unfolding childrenOf
     childrenB = ap children (ready .listsB b (ready .inTree))
 
-    onceA : Once (childrenOf start a)
+    pub onceA : Once (childrenOf start a)
     unfolding childrenOf
     onceA = subst Once childrenA (ready .kept .once a)
 
-    walk-fits : (v : Version) → WalkFits x (childrenOf start a) (childrenOf start b) (walkLevel x (t .model) v a b)
+    pub walk-fits : (v : Version) → WalkFits x (childrenOf start a) (childrenOf start b) (walkLevel x (t .model) v a b)
     unfolding childrenOf
     walk-fits v = rw (childrenA, childrenB) at (level-fits x (t .model) v a b)
 
@@ -188,7 +188,7 @@ module _ (x : Fixed) (s : State) (inv : Inv x s) (tr : Tree) (among : In tr (x .
         (λ few.
         merge-steps-put pending e v (not-root (parentA i)) (restricts e v) refl (kept-restrict (pending .kept) e v (child-range a i) part few))
 
-    restrictions-pending : {as′ cs : List Element} (l : List Element) → Within l (childrenOf start a)
+    pub restrictions-pending : {as′ cs : List Element} (l : List Element) → Within l (childrenOf start a)
         → (u : State) → Pending as′ cs u → LevelStep as′ cs (restrictElements files l u)
     unfolding restrictElements
     restrictions-pending [] within u pending = isDone pending
@@ -261,7 +261,7 @@ module _ (x : Fixed) (s : State) (inv : Inv x s) (tr : Tree) (among : In tr (x .
         (λ i j. import-ok u (tr .file) a c (clamp wanted i j) (λ few room. import-pending c (clamp wanted i j) withinA withinB once pending few room))
         isRefused (isConflict (unmarked-steps (pending .unmarked)))
 
-    new-items : {as′ : List Element} (cs : List Element) (v : Version) (index : ℕ) (l : List NewItem)
+    pub new-items : {as′ : List Element} (cs : List Element) (v : Version) (index : ℕ) (l : List NewItem)
         → Within as′ (childrenOf start a)
         → Within (imported l ++ cs) (childrenOf start b) → Once (imported l ++ cs)
         → (u : State) → Pending as′ (imported l ++ cs) u
@@ -285,7 +285,7 @@ module _ (x : Fixed) (s : State) (inv : Inv x s) (tr : Tree) (among : In tr (x .
       pair-type : typeOf x (q .a) ≡ typeOf x (q .b)
       pair-type = same-type (ready .type) (child-fits a inA) (child-fits b inB) names
 
-      ready-pair : {as′ cs : List Element} {u : State} → Pending (q .a ∷ as′) (q .b ∷ cs) u
+      pub ready-pair : {as′ cs : List Element} {u : State} → Pending (q .a ∷ as′) (q .b ∷ cs) u
           → Ready x start (tr .root) (filesOfPair files (u .model) (q .a)) (q .a) (q .b) u
       ready-pair {u = u} pending =
           record {
@@ -366,7 +366,7 @@ module _ (x : Fixed) (s : State) (inv : Inv x s) (tr : Tree) (among : In tr (x .
           bool-case (LevelStep as′ cs) (splittableIn (x .schema) (typeOf x a) v) (λ _. fallBack-pending e w path)
           (λ _. isConflict (steps-append (unmarked-steps (pending .unmarked)) path)))
 
-      settle-pending : {o : Outcome} → IfDone (Level x start (q .a) (q .b) u) (Steps u) o
+      pub settle-pending : {o : Outcome} → IfDone (Level x start (q .a) (q .b) u) (Steps u) o
           → LevelStep as′ cs (settle x (tr .file) v a q own (length (u .log)) o)
       unfolding settle
       settle-pending (isDone {t = w} h) = extend-pending w (level-pending h)

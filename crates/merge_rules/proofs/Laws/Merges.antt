@@ -42,7 +42,7 @@ module _ (x : Fixed) (s : State) (inv : Inv x s) (tr : Tree) (among : In tr (x .
   abbrev start : Model
   start = s .model
 
-  ready-root : Ready x start (tr .root) (loadedFiles start) root (tr .root) s
+  pub ready-root : Ready x start (tr .root) (loadedFiles start) root (tr .root) s
   ready-root =
       record {
         inModel = here refl;
@@ -164,7 +164,7 @@ module _ (x : Fixed) (s : State) (inv : Inv x s) (tr : Tree) (among : In tr (x .
 
 -- ---- the call
 
-waiting-tree : (x : Fixed) (m : Model) (f : FileNumber) (tr : Tree) → waitingTree x m f ≡ some tr
+pub waiting-tree : (x : Fixed) (m : Model) (f : FileNumber) (tr : Tree) → waitingTree x m f ≡ some tr
     → (holds (loadedFiles m) (tr .file) ≡ false) × In tr (x .elements .trees)
 unfolding waitingTree
 waiting-tree x m f tr =

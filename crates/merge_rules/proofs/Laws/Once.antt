@@ -1,6 +1,7 @@
 -- Lists without repetition: as a test of items has it, and how long they are. Assumes nothing.
 use mathlib.Core.Bool.{Bool, true, false, not}
-use mathlib.Core.List.{List, [], _∷_, List·Memᴰ·head, List·Memᴰ·tail}
+use mathlib.Core.List.{List, [], _∷_, List·Memᴰ·head, List·Memᴰ·tail, List·Memᴰ·cases-cons, List·Memᴰ·not-nil}
+use mathlib.Core.Logic.{⊎-elim}
 use mathlib.Core.Path.{_≡_, refl, sym, ap}
 use Prim.Native.Nat.{ℕ, zero, suc, _≤_, _<_, zero-le}
 use native.Mathlib.Nat.{not-suc-le-zero}
@@ -15,7 +16,7 @@ use Rattle.table_test.specs.ModelTest.{sameChild, onceIn}
 use Rattle.table_test.proofs.Laws.Scans.{any-text}
 use Rattle.merge_rules.specs.Pairing.{children}
 use Rattle.merge_rules.specs.Sound.{In, Once, once-nil, once-cons}
-use Rattle.merge_rules.proofs.Laws.Lists.{each-nil, each-cons, anyOf-none, in-children, once-head, once-tail}
+use Rattle.merge_rules.proofs.Laws.Lists.{each-nil, each-cons, Within, within-head, anyOf-none, in-children, once-head, once-tail}
 
 -- ---- children of a list
 
@@ -80,3 +81,14 @@ once-below (suc n) l o h = omega (arith, without-few n o, once-below n (without 
   where
     below : (a : ℕ) → In a (without n l) → a < n
     below a i = let (other, k) = keep-in (λ (y : ℕ). not (eqb y n)) l a i in omega (arith, h a k, eqb-false a n (not-true _ other))
+
+-- entries of a list, each once, are at most as many as it has
+pub once-within : {l : List ℕ} (k : List ℕ) → Once l → Within l k → length l ≤ length k
+once-within [] once-nil w = zero-le
+once-within [] (once-cons h o) w = absurd (List·Memᴰ·not-nil (within-head w))
+once-within {l} (y ∷ k) o w = omega (arith, without-few y o, once-within k (once-keep _ o) rest)
+  where
+    rest : Within (without y l) k
+    rest a i =
+        let (other, j) = keep-in (λ (z : ℕ). not (eqb z y)) l a i in
+        ⊎-elim (λ q. absurd (eqb-false a y (not-true _ other) q)) (λ h. h) (List·Memᴰ·cases-cons (w a j))

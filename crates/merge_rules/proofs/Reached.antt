@@ -1,0 +1,29 @@
+-- After a load each element is reached at most once, and a merge visits no more pairs than the deck has elements. Assumes nothing.
+use mathlib.Core.List.{List}
+use mathlib.Core.Path.{_≡_}
+use Prim.Native.Nat.{ℕ}
+use Rattle.tables.specs.Records.{Fixed, State}
+use Rattle.deck.specs.Load.{load, loaded}
+use Rattle.merge_rules.specs.Book.{Call}
+use Rattle.merge_rules.specs.Reached.{ReachedOnce, MergesVisitFew}
+use Rattle.merge_rules.specs.Withdrawal.{stateAfter}
+use Rattle.merge_rules.proofs.Laws.Invariant.{Inv}
+use Rattle.merge_rules.proofs.Laws.Loaded.{load-inv}
+use Rattle.merge_rules.proofs.Laws.Merges.{merge-inv, waiting-tree}
+use Rattle.merge_rules.proofs.Laws.Reached.{each-once}
+use Rattle.merge_rules.proofs.Laws.Visited.{visits-few}
+use Rattle.merge_rules.proofs.Laws.Withdrawal.{reached}
+
+stays-inv : (deck : List ℕ) (x : Fixed) (s : State) → load deck ≡ loaded x s → (cs : List Call) → Inv x (stateAfter x cs s)
+stays-inv deck x s h cs = let l = load-inv deck x s h in reached x (Inv x) (merge-inv x) s (l .1) (l .0) cs
+
+-- no element is reached twice
+pub reached-once : ReachedOnce
+reached-once deck x s h cs = each-once (stays-inv deck x s h cs)
+
+-- and a merge visits no more pairs than there are elements
+pub merges-visit-few : MergesVisitFew
+merges-visit-few deck x s h cs f t w =
+    let inv = stays-inv deck x s h cs in
+    let (waits, among) = waiting-tree x (stateAfter x cs s .model) f t w in
+    visits-few x (stateAfter x cs s) inv t among waits
