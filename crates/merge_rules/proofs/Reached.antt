@@ -1,11 +1,14 @@
 -- After a load each element is reached at most once, and a merge visits no more pairs than the deck has elements. Assumes nothing.
 use mathlib.Core.List.{List}
-use mathlib.Core.Path.{_≡_}
+use mathlib.Core.Path.{_≡_, refl}
 use Prim.Native.Nat.{ℕ}
+use Rattle.tables.specs.Bytes.{bytes}
+use Rattle.tables.specs.ModelTable.{flat}
 use Rattle.tables.specs.Records.{Fixed, State}
 use Rattle.deck.specs.Load.{load, loaded}
 use Rattle.merge_rules.specs.Book.{Call}
-use Rattle.merge_rules.specs.Reached.{ReachedOnce, MergesVisitFew}
+use Rattle.merge_rules.specs.Pairing.{children, childrenOf}
+use Rattle.merge_rules.specs.Reached.{reachedFrom, ReachedOnce, MergesVisitFew, visitedOf, ReachedRows}
 use Rattle.merge_rules.specs.Withdrawal.{stateAfter}
 use Rattle.merge_rules.proofs.Laws.Invariant.{Inv}
 use Rattle.merge_rules.proofs.Laws.Loaded.{load-inv}
@@ -27,3 +30,8 @@ merges-visit-few deck x s h cs f t w =
     let inv = stays-inv deck x s h cs in
     let (waits, among) = waiting-tree x (stateAfter x cs s .model) f t w in
     visits-few x (stateAfter x cs s) inv t among waits
+
+-- the rows, each by computation
+pub reached-rows : ReachedRows
+unfolding visitedOf bytes childrenOf children flat reachedFrom
+reached-rows = (refl, refl, refl)

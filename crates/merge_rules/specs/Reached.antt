@@ -5,11 +5,12 @@ use mathlib.Core.Option.{none, some}
 use mathlib.Core.Path.{_≡_}
 use Prim.Native.Nat.{ℕ, zero, suc, _+_, _≤_}
 use lib.ListN.{length}
+use Rattle.tables.specs.Bytes.{bytes}
 use Rattle.tables.specs.FileSets.{loadedFiles, waitingTree}
 use Rattle.tables.specs.Limits.{depthLimit}
 use Rattle.tables.specs.ModelTable.{flat}
-use Rattle.tables.specs.Records.{Element, FileNumber, FileSet, Version, Tree, Model, State, Fixed, root}
-use Rattle.deck.specs.Load.{load, loaded}
+use Rattle.tables.specs.Records.{Element, FileNumber, FileSet, Version, Tree, child, text, Model, State, Fixed, root}
+use Rattle.deck.specs.Load.{load, Load, loaded, refusedAt}
 use Rattle.deck.specs.Schema.{versionOf}
 use Rattle.merge_rules.specs.Book.{Call}
 use Rattle.merge_rules.specs.Import.{importNewItems}
@@ -17,6 +18,8 @@ use Rattle.merge_rules.specs.Level.{restrictElements, filesOfPair, settl
 use Rattle.merge_rules.specs.Pairing.{childrenOf, Pair, Plan, planned, unmergeableIn, walkLevel, firstUsedTwice}
 use Rattle.merge_rules.specs.Refusals.{Outcome, done, conflict, refused, _>>=_}
 use Rattle.merge_rules.specs.Sound.{In, count, Once}
+use Rattle.merge_rules.specs.Stars.{namedDeck, namedX, namedY, choiceDeck}
+use Rattle.merge_rules.specs.Unfolding.{mergeRules}
 use Rattle.merge_rules.specs.Withdrawal.{stateAfter}
 
 -- ---- what is reached
@@ -108,3 +111,33 @@ abbrev pub MergesVisitFew : Type 0
 MergesVisitFew =
     (deck : List ℕ) (x : Fixed) (s : State) → load deck ≡ loaded x s → (cs : List Call) (f : FileNumber) (t : Tree)
     → waitingTree x (stateAfter x cs s .model) f ≡ some t → VisitsFew x t (stateAfter x cs s)
+
+-- ---- rows
+
+-- Lists that no load made: both children of the root list element 3, which is reached twice.
+abbrev pub sharing : Model
+sharing =
+    record {
+      parents = none ∷ some 0 ∷ some 0 ∷ some 1 ∷ [];
+      sets = 1 ∷ 0 ∷ 0 ∷ 0 ∷ [];
+      lists = (child 1 ∷ child 2 ∷ []) ∷ (child 3 ∷ []) ∷ (text 0 ∷ child 3 ∷ []) ∷ [] ∷ [];
+    }
+
+abbrev pub pairOf : Element → Element → Pair
+pairOf a b = record { a = a; b = b }
+
+unfoldable pub visitedIn : FileNumber → Load → List Pair
+visitedIn f (loaded x s) = elim (waitingTree x (s .model) f) [ none ↦ [] | some t ↦ visitedPairs x t s ]
+visitedIn f (refusedAt n line) = []
+
+unfoldable pub visitedOf : List ℕ → FileNumber → List Pair
+unfolding mergeRules visitedBehind visitedInPairs visitedInPlan visitedInLevel visitedPairs visitedIn
+visitedOf deck f = visitedIn f (load deck)
+
+abbrev pub ReachedRows : Type 0
+ReachedRows =
+    (allReached sharing root ≡ 0 ∷ 1 ∷ 3 ∷ 2 ∷ 3 ∷ [])
+    -- Named x, y against y, x: two pairs, each with its SHORT-NAMEs; all five elements of the tree are visited.
+    × (visitedOf (namedDeck (bytes "0") (namedX ++ namedY) (namedY ++ namedX)) 1 ≡ pairOf 0 5 ∷ pairOf 1 8 ∷ pairOf 2 9 ∷ pairOf 3 6 ∷ pairOf 4 7 ∷ [])
+    -- Unnamed n with c1 against n with c2 in a choice: the pair of the n is visited, though it falls back.
+    × (visitedOf (choiceDeck (bytes "2")) 1 ≡ pairOf 0 3 ∷ pairOf 1 4 ∷ [])

@@ -73,7 +73,8 @@ closed-strict {start} {b} cs e q f h = go (f .within .under)
         inr (record { within = record { under = under-cast (mem-unique k h) u; outside = λ c i v. f .within .outside c i (below h v) }; strict = n }))
         (same-or-other q b)
 
-in-list : (m : Model) (p : Element) {e : Element} → In e (childrenOf m p) → In (child e) (listOf m p)
+-- a child's item is in its parent's list
+pub in-list : (m : Model) (p : Element) {e : Element} → In e (childrenOf m p) → In (child e) (listOf m p)
 unfolding childrenOf
 in-list m p i = children-in (listOf m p) i
 

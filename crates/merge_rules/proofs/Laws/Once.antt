@@ -1,6 +1,6 @@
--- Lists without repetition: as a test of items has it, and how long they are. Assumes nothing.
+-- Lists without repetition: as a test of items has it, joined, and how long they are. Assumes nothing.
 use mathlib.Core.Bool.{Bool, true, false, not}
-use mathlib.Core.List.{List, [], _∷_, List·Memᴰ·head, List·Memᴰ·tail, List·Memᴰ·cases-cons, List·Memᴰ·not-nil}
+use mathlib.Core.List.{List, [], _∷_, _++_, List·Memᴰ·head, List·Memᴰ·tail, List·Memᴰ·cases-cons, List·Memᴰ·not-nil, List·Memᴰ·append-cases, Memᴰ·append-right, Memᴰ·cast}
 use mathlib.Core.Logic.{⊎-elim}
 use mathlib.Core.Path.{_≡_, refl, sym, ap}
 use Prim.Native.Nat.{ℕ, zero, suc, _≤_, _<_, zero-le}
@@ -34,6 +34,20 @@ unfolding onceIn children
 once-in [] o = refl
 once-in (child e ∷ l) o = rw (onceIn, same-child e l (λ h. once-head o (in-children l h))) (once-in l (once-tail o))
 once-in (text t ∷ l) o = rw (onceIn, any-text t l) (once-in l o)
+
+-- ---- joined
+
+-- two that have nothing in common
+pub once-append : {l k : List Element} → Once l → Once k → ((e : Element) → In e l → In e k → ⊥) → Once (l ++ k)
+once-append once-nil p apart = p
+once-append (once-cons {e} {l} h o) p apart =
+    once-cons (λ i. ⊎-elim h (apart e (List·Memᴰ·head refl)) (List·Memᴰ·append-cases l i)) (once-append o p (λ c i. apart c (List·Memᴰ·tail i)))
+
+-- and the other way round
+pub once-apart : {e : Element} (l : List Element) {k : List Element} → Once (l ++ k) → In e l → In e k → ⊥
+once-apart [] o i j = List·Memᴰ·not-nil i
+once-apart (y ∷ l) o i j =
+    ⊎-elim (λ q. once-head o (Memᴰ·append-right l (Memᴰ·cast (sym q) j))) (λ h. once-apart l (once-tail o) h j) (List·Memᴰ·cases-cons i)
 
 -- ---- how long they are
 

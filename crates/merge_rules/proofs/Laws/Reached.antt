@@ -10,23 +10,18 @@ use lib.ListN.{length, length-append}
 use Rattle.tables.specs.FileSets.{holds, loadedFiles}
 use Rattle.tables.specs.Limits.{depthLimit}
 use Rattle.tables.specs.ModelTable.{flat}
-use Rattle.tables.specs.Records.{Element, FileNumber, Tree, child, Model, State, Fixed, root, depthOf, parentOf, listOf}
+use Rattle.tables.specs.Records.{Element, Tree, child, Model, State, Fixed, root, depthOf, parentOf, listOf}
 use Rattle.merge_rules.specs.Pairing.{childrenOf}
 use Rattle.merge_rules.specs.Reached.{reachedFrom, allReached, TreeApart, EachOnce}
 use Rattle.merge_rules.specs.Sound.{In, count, Once, once-nil, once-cons}
-use Rattle.merge_rules.proofs.Laws.Chains.{Deep, under-cast, under-trans, not-above, siblings, tree-disjoint}
+use Rattle.merge_rules.proofs.Laws.Chains.{Deep, under-trans, not-above, siblings, tree-disjoint}
 use Rattle.merge_rules.proofs.Laws.Invariant.{Under, here, below, Owns, Inv}
-use Rattle.merge_rules.proofs.Laws.Lists.{Within, within-head, within-tail, each-nil, each-cons, once-head, once-tail, children-in}
+use Rattle.merge_rules.proofs.Laws.Levels.{in-list}
+use Rattle.merge_rules.proofs.Laws.Lists.{each-nil, each-cons, Within, within-head, within-tail, once-head, once-tail}
 use Rattle.merge_rules.proofs.Laws.Merges.{waiting-tree}
-use Rattle.merge_rules.proofs.Laws.Once.{once-below}
+use Rattle.merge_rules.proofs.Laws.Once.{once-append, once-below}
 
 -- ---- lists
-
--- two lists without repetition that have nothing in common
-pub once-append : {l k : List Element} → Once l → Once k → ((e : Element) → In e l → In e k → ⊥) → Once (l ++ k)
-once-append once-nil p apart = p
-once-append (once-cons {e} {l} n o) p apart =
-    once-cons (λ i. ⊎-elim n (apart e (List·Memᴰ·head refl)) (List·Memᴰ·append-cases l i)) (once-append o p (λ c i. apart c (List·Memᴰ·tail i)))
 
 module _ (f : Element → List Element) {e : Element} where
   -- an entry of what each of a list gives is of what one of them gives
@@ -46,10 +41,6 @@ module _ (f : Element → List Element) {e : Element} where
 map-same : {f g : Element → List Element} (l : List Element) → ((c : Element) → In c l → f c ≡ g c) → map f l ≡ map g l
 map-same [] h = refl
 map-same (c ∷ l) h = rw (h c (List·Memᴰ·head refl), map-same l (λ d i. h d (List·Memᴰ·tail i)))
-
-in-list : (m : Model) (p : Element) {c : Element} → In c (childrenOf m p) → In (child c) (listOf m p)
-unfolding childrenOf
-in-list m p i = children-in (listOf m p) i
 
 -- ---- what is reached of a sound model
 
@@ -84,7 +75,7 @@ module _ (x : Fixed) (m : Model) (r : Element) (deep : Deep x m) (owns : (p : El
   child-parent {p} {c} u i = owns p u c (in-list m p i)
 
   -- what an element reaches is under it
-  pub reached-under : (n : ℕ) (p : Element) → Under m r p → (e : Element) → In e (reachedFrom n m p) → Under m p e
+  reached-under : (n : ℕ) (p : Element) → Under m r p → (e : Element) → In e (reachedFrom n m p) → Under m p e
   unfolding reachedFrom
   reached-under zero p u = each-nil _
   reached-under (suc n) p u =
@@ -94,6 +85,7 @@ module _ (x : Fixed) (m : Model) (r : Element) (deep : Deep x m) (owns : (p : El
       let own = child-parent u j in
       under-trans (below own (here refl)) (reached-under n c (below own u) e k))
 
+  -- and so what children reach, where each of them does
   list-once : (n : ℕ) (p : Element) → Under m r p → ((c : Element) → Under m r c → Once (reachedFrom n m c)) → (cs : List Element)
       → Within cs (childrenOf m p) → Once cs → Once (flat (map (reachedFrom n m) cs))
   unfolding flat
@@ -110,22 +102,22 @@ module _ (x : Fixed) (m : Model) (r : Element) (deep : Deep x m) (owns : (p : El
           let second = child-parent u (within-tail within d i) in
           once-head o (Memᴰ·cast (siblings x deep first second (reached-under n c (below first u) e h) (reached-under n d (below second u) e j)) i)
 
-  -- it is reached once
-  pub reached-once : (n : ℕ) (p : Element) → Under m r p → Once (reachedFrom n m p)
+  -- each once
+  from-once : (n : ℕ) (p : Element) → Under m r p → Once (reachedFrom n m p)
   unfolding reachedFrom
-  reached-once zero p u = once-nil
-  reached-once (suc n) p u =
+  from-once zero p u = once-nil
+  from-once (suc n) p u =
       once-cons
       (λ h.
       let (c, i, j) = flat-in (reachedFrom n m) (childrenOf m p) h in
       let own = child-parent u i in
       not-above x deep own (reached-under n c (below own u) p j))
-      (list-once n p u (λ c v. reached-once n c v) (childrenOf m p) (λ c i. i) (once p))
+      (list-once n p u (λ c v. from-once n c v) (childrenOf m p) (λ c i. i) (once p))
 
-  -- and so is what these children of it reach
-  pub children-once : (n : ℕ) (p : Element) → Under m r p → (cs : List Element) → Within cs (childrenOf m p) → Once cs
+  -- and so what these children of it reach
+  children-once : (n : ℕ) (p : Element) → Under m r p → (cs : List Element) → Within cs (childrenOf m p) → Once cs
       → Once (flat (map (reachedFrom n m) cs))
-  children-once n p u cs within o = list-once n p u (λ c v. reached-once n c v) cs within o
+  children-once n p u cs within o = list-once n p u (λ c v. from-once n c v) cs within o
 
 -- ---- a state that calls reach
 
@@ -143,15 +135,16 @@ module _ {x : Fixed} {s : State} (inv : Inv x s) where
   -- more levels reach no more
   pub more-levels : (e : Element) (n : ℕ) → suc depthLimit ≤ n → reachedFrom n m e ≡ allReached m e
   more-levels e n h =
-      reached-levels x m (inv .sound .static .elements .shallow) (λ p c i. inv .sound .kept .fits p c i .depth) n (suc depthLimit) e (omega arith) (omega arith)
+      reached-levels x m (inv .sound .static .elements .shallow) (λ p c i. inv .sound .kept .fits p c i .depth) n (suc depthLimit) e (omega arith)
+      (omega arith)
 
   model-once : Once (allReached m root)
-  model-once = reached-once x m root (inv .sound .kept .deep) (inv .model) once-children (suc depthLimit) root (here refl)
+  model-once = from-once x m root (inv .sound .kept .deep) (inv .model) once-children (suc depthLimit) root (here refl)
 
   module _ (t : Tree) (among : In t (x .elements .trees)) (waits : holds (loadedFiles m) (t .file) ≡ false) where
     -- of a waiting tree
     pub tree-once : (n : ℕ) → Once (reachedFrom n m (t .root))
-    tree-once n = reached-once x m (t .root) (inv .sound .kept .deep) (inv .waiting t among waits) once-children n (t .root) (here refl)
+    tree-once n = from-once x m (t .root) (inv .sound .kept .deep) (inv .waiting t among waits) once-children n (t .root) (here refl)
 
     -- of children of one of its elements
     pub tree-children-once : (n : ℕ) (p : Element) → Under m (t .root) p → (cs : List Element) → Within cs (childrenOf m p) → Once cs
