@@ -12,6 +12,9 @@ use Rattle.tables.specs.ModelTable.{flat}
 use Rattle.tables.specs.Records.{Element, FileNumber, FileSet, Version, Tree, child, text, Model, State, Fixed, root}
 use Rattle.deck.specs.Load.{load, Load, loaded, refusedAt}
 use Rattle.deck.specs.Schema.{versionOf}
+use Rattle.load.specs.LoadCall.{Tables, loadCall}
+use Rattle.load.specs.declared.load.Answer.the-variants.{Loaded}
+use Rattle.state_test.specs.StateTest.{fixedIn, stateIn}
 use Rattle.merge_rules.specs.Book.{Call}
 use Rattle.merge_rules.specs.Import.{importNewItems}
 use Rattle.merge_rules.specs.Level.{restrictElements, filesOfPair, settle, levelVersion, mergeElement}
@@ -19,6 +22,7 @@ use Rattle.merge_rules.specs.Pairing.{childrenOf, Pair, Plan, planned, u
 use Rattle.merge_rules.specs.Refusals.{Outcome, done, conflict, refused, _>>=_}
 use Rattle.merge_rules.specs.Sound.{In, count, Once}
 use Rattle.merge_rules.specs.Stars.{namedDeck, namedX, namedY, choiceDeck}
+use Rattle.merge_rules.specs.TableWithdrawal.{tablesAfter}
 use Rattle.merge_rules.specs.Unfolding.{mergeRules}
 use Rattle.merge_rules.specs.Withdrawal.{stateAfter}
 
@@ -112,9 +116,24 @@ MergesVisitFew =
     (deck : List ℕ) (x : Fixed) (s : State) → load deck ≡ loaded x s → (cs : List Call) (f : FileNumber) (t : Tree)
     → waitingTree x (stateAfter x cs s .model) f ≡ some t → VisitsFew x t (stateAfter x cs s)
 
+-- ---- the same of lent tables
+
+-- of what they say
+pub record FewVisited (x : Fixed) (s : State) : Type 0 where
+  pub reached : EachOnce x (s .model)
+  pub visited : (f : FileNumber) (t : Tree) → waitingTree x (s .model) f ≡ some t → VisitsFew x t s
+
+abbrev pub FewVisitedOn : List ℕ → Tables → Type 0
+FewVisitedOn deck t = FewVisited (fixedIn deck (t .schema) (t .elements)) (stateIn (t .model) (t .log))
+
+-- Take any deck that loads, into any tables, and any list of calls.
+abbrev pub FewVisitedOnTables : Type 0
+FewVisitedOnTables =
+    (deck : List ℕ) (t : Tables) → loadCall deck t .answer ≡ Loaded → (cs : List Call) → FewVisitedOn deck (tablesAfter deck cs (loadCall deck t .tables))
+
 -- ---- rows
 
--- Lists that no load made: both children of the root list element 3, which is reached twice.
+-- Lists that no load made: both children of the root hold element 3.
 abbrev pub sharing : Model
 sharing =
     record {
@@ -136,6 +155,7 @@ visitedOf deck f = visitedIn f (load deck)
 
 abbrev pub ReachedRows : Type 0
 ReachedRows =
+    -- in the order in which they are read, element 3 twice
     (allReached sharing root ≡ 0 ∷ 1 ∷ 3 ∷ 2 ∷ 3 ∷ [])
     -- Named x, y against y, x: two pairs, each with its SHORT-NAMEs; all five elements of the tree are visited.
     × (visitedOf (namedDeck (bytes "0") (namedX ++ namedY) (namedY ++ namedX)) 1 ≡ pairOf 0 5 ∷ pairOf 1 8 ∷ pairOf 2 9 ∷ pairOf 3 6 ∷ pairOf 4 7 ∷ [])

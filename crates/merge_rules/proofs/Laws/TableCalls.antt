@@ -118,7 +118,7 @@ module _ {deck : List ℕ} {x : Fixed} where
   later-calls h c = stays-after h (c ∷ [])
 
   -- the tables behind a list of calls
-  tables-after : {s : State} → StaysHolding deck x s → (cs : List Call) → tablesAfter deck cs (encoded x s) ≡ encoded x (stateAfter x cs s)
+  pub tables-after : {s : State} → StaysHolding deck x s → (cs : List Call) → tablesAfter deck cs (encoded x s) ≡ encoded x (stateAfter x cs s)
   unfolding tablesAfter stateAfter
   tables-after h [] = refl
   tables-after h (c ∷ cs) = rw (first-call h c) (tables-after (later-calls h c) cs)
