@@ -1,17 +1,17 @@
 -- The trees of a loaded deck, printed, are the deck's own lines from its M line on. Assumes nothing.
-use mathlib.Core.Bool.{Bool, true, false, not, _&&_}
+use mathlib.Core.Bool.{Bool, true, false, _&&_}
 use mathlib.Core.List.{List, [], _∷_, _++_}
 use mathlib.Core.Option.{Option, none, some}
 use mathlib.Core.Path.{_≡_}
 use Prim.Native.Nat.{ℕ, suc}
 use lib.Dec.{leb}
 use Rattle.tables.specs.Bytes.{bytes}
-use Rattle.tables.specs.FileSets.{holds, loadedFiles}
 use Rattle.tables.specs.Limits.{depthLimit}
 use Rattle.tables.specs.Lists.{keep, sameList}
 use Rattle.tables.specs.Records.{Tree, Model, Fixed, State}
 use Rattle.deck.specs.Deck.{Part, lines, Line, T, G, S, F, M, B, E, C, readLine}
 use Rattle.deck.specs.Load.{load, loaded}
+unfoldable pub use Rattle.state_test.specs.StateTest.{waits}
 use Rattle.merge_rules.specs.Program.{decimalOf, lineOf, elementLines, modelLines, output}
 
 -- ---- the trees printed
@@ -23,10 +23,6 @@ treeLines x m t = lineOf (bytes "B" ∷ decimalOf (t .file) ∷ []) ++ elementLi
 unfoldable pub waitingLines : Fixed → Model → List Tree → List ℕ
 waitingLines x m [] = []
 waitingLines x m (t ∷ ts) = treeLines x m t ++ waitingLines x m ts
-
--- a tree waits while its file is outside the root's set
-unfoldable pub waits : Model → Tree → Bool
-waits m t = not (holds (loadedFiles m) (t .file))
 
 -- `M` and the model, then the waiting trees in deck order
 unfoldable pub treesLines : Fixed → Model → List ℕ

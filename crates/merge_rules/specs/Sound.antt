@@ -1,6 +1,7 @@
 -- What refusal 0 asks of a state, as facts: every number in its range; each listed element once in its list, one deeper than the list's owner
--- and of the type that the owner's row gives its name; roots of depth 0 and type 0; one tree a file; sets of declared files; the limits.
--- Beyond what refusal 0 asks, an extension's file is declared. Assumes nothing.
+-- and of the type that the owner's row gives its name; roots of depth 0 and type 0; sets of declared files; the limits.
+-- Beyond what refusal 0 asks, each tree, waiting or merged, has a file and a root of its own, and an extension's file is declared.
+-- Assumes nothing.
 use mathlib.Core.Bool.{true}
 use mathlib.Core.List.{List, [], _∷_, List·Memᴰ}
 use mathlib.Core.Option.{some}

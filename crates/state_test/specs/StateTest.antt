@@ -7,9 +7,9 @@ use mathlib.Core.Path.{_≡_}
 use Prim.Native.Nat.{ℕ, suc, _≤_, _<_}
 use lib.Dec.{eqb}
 use lib.ListN.{length, getD}
-use Rattle.tables.specs.FileSets.{noSet, partOf}
+use Rattle.tables.specs.FileSets.{noSet, holds, partOf, loadedFiles}
 use Rattle.tables.specs.Limits.{depthLimit}
-use Rattle.tables.specs.Lists.{anyOf, allOf}
+use Rattle.tables.specs.Lists.{anyOf, allOf, keep}
 use Rattle.tables.specs.Records.{Element, FileSet, Group, SubElement, Schema, Tree, Item, child, text, Entry, import, restriction, extension, Model, Fixed, State, root, nameOf, typeOf, depthOf, setOf, addGroup, addSubElement}
 use Rattle.tables.specs.ElementsTable.{elementsOf}
 use Rattle.tables.specs.LogTable.{logOf}
@@ -57,9 +57,13 @@ entryDeclared sc (import e p oldParent oldSet) = setDeclared sc oldSet
 entryDeclared sc (restriction e oldSet) = setDeclared sc oldSet
 entryDeclared sc (extension e f) = true
 
--- or over a waiting tree
+-- or over a waiting tree: over any tree, since a loaded file is in the root's set, and so declared
 unfoldable pub treeDeclared : Schema → Tree → Bool
 treeDeclared sc t = declaresFile sc (t .file)
+
+-- a tree waits while its file is outside the root's set
+unfoldable pub waits : Model → Tree → Bool
+waits m t = not (holds (loadedFiles m) (t .file))
 
 -- two waiting trees of one file
 unfoldable pub treeFilesDistinct : List Tree → Bool
@@ -89,7 +93,7 @@ listsValid x p (l ∷ ls) = elim (allOf (itemValid x p) l) [ true ↦ listsValid
 unfoldable pub filesDeclared : Fixed → State → Bool
 filesDeclared x s =
     rootSetStored (s .model) && allOf (setDeclared (x .schema)) (s .model .sets) && allOf (entryDeclared (x .schema)) (s .log)
-    && allOf (treeDeclared (x .schema)) (x .elements .trees) && treeFilesDistinct (x .elements .trees)
+    && allOf (treeDeclared (x .schema)) (x .elements .trees) && treeFilesDistinct (keep (waits (s .model)) (x .elements .trees))
 
 unfoldable pub rootsValid : Fixed → Bool
 rootsValid x = rootValid x root && allOf (λ (t : Tree). rootValid x (t .root)) (x .elements .trees)

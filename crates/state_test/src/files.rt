@@ -14,15 +14,15 @@ ghost use mathlib.Core.Path.{_≡_};
 ghost use Prim.Native.Nat.{ℕ, _<_};
 ghost use Rattle.tables.specs.Cells.{Each};
 ghost use Rattle.tables.specs.Limits.{fileLimit};
-ghost use Rattle.tables.specs.Lists.{allOf};
+ghost use Rattle.tables.specs.Lists.{allOf, keep};
 ghost use Rattle.tables.specs.Records.{File, Schema, Tree};
 ghost use Rattle.tables.specs.ElementsTable.{elementsOf, GoodElements};
 ghost use Rattle.tables.specs.LogTable.{logOf, GoodLog, entryIs};
-ghost use Rattle.tables.specs.ModelTable.{modelOf, GoodModel};
+ghost use Rattle.tables.specs.ModelTable.{countOf, modelOf, GoodModel};
 ghost use Rattle.tables.specs.SchemaTable.{schemaOf, GoodSchema};
 ghost use Rattle.tables.specs.SetCells.{setIs};
 ghost use Rattle.deck.specs.Schema.{declaredFiles};
-ghost use Rattle.state_test.specs.StateTest.{rootSetStored, setDeclared, entryDeclared, treeDeclared, treeFilesDistinct, filesDeclared, fixedIn, stateIn};
+ghost use Rattle.state_test.specs.StateTest.{rootSetStored, setDeclared, entryDeclared, treeDeclared, waits, treeFilesDistinct, filesDeclared, fixedIn, stateIn};
 
 // The model root's set is not 0.
 fn root_set_stored(model: &[u64]) -> bool
@@ -93,17 +93,24 @@ fn trees_declared(elements: &[u64], d: FileSet) -> bool
     true
 }
 
-// No tree's file is among those of the trees before it.
-fn tree_files_distinct(elements: &[u64]) -> bool
+// No waiting tree's file is among those of the waiting trees before it.
+fn tree_files_distinct(elements: &[u64], model: &[u64]) -> bool
     requires { ⌜ GoodElements (now elements) ⌝ }
     requires { ⌜ Each (λ (t : Tree). t .file < fileLimit) (elementsOf (now elements) .trees) ⌝ }
-    ensures { λ r. ⌜ r ≡ treeFilesDistinct (elementsOf (now (elements .entry)) .trees) ⌝ }
+    requires { ⌜ GoodModel (now model) ⌝ }
+    requires { ⌜ 0 < countOf (modelOf (now model)) ⌝ }
+    ensures { λ r. ⌜ r ≡ treeFilesDistinct (keep (waits (modelOf (now (model .entry)))) (elementsOf (now (elements .entry)) .trees)) ⌝ }
 {
+    let loaded = set_of(model, Element(0));
     let n = tree_count(elements);
     let mut seen = FileSet::none();
     let mut i = 0;
     while i < n {
         let f = tree_file(elements, i);
+        if loaded.holds(f) {
+            i += 1;
+            continue;
+        }
         if seen.holds(f) {
             return false;
         }
@@ -135,5 +142,5 @@ pub fn files_declared(schema: &[u64], elements: &[u64], model: &[u64], log: &[u6
     if !trees_declared(elements, d) {
         return false;
     }
-    tree_files_distinct(elements)
+    tree_files_distinct(elements, model)
 }

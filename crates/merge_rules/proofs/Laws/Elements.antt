@@ -8,7 +8,7 @@ use borrow.Author.Tests.{eqb-false, ne-eqb}
 use lib.Dec.{eqb}
 use Rattle.tables.specs.Cells.{Each}
 use Rattle.tables.specs.Limits.{nameLimit}
-use Rattle.tables.specs.Lists.{anyOf}
+use Rattle.tables.specs.Lists.{anyOf, keep}
 use Rattle.tables.specs.Records.{Name, TypeNumber, Text, Tree, Elements, addElement, addText, addTree}
 use Rattle.tables.proofs.Laws.Cells.{each-append, each-imp}
 use Rattle.tables.proofs.Laws.Cases.{bool-case}
@@ -16,7 +16,7 @@ use Rattle.table_test.specs.ElementsTest.{TextIn}
 use Rattle.deck.specs.Load.{nothing}
 use Rattle.tables.proofs.Laws.Scans.{any-snoc-false}
 use Rattle.state_test.specs.StateTest.{treeFilesDistinct}
-use Rattle.merge_rules.proofs.Laws.Lists.{anyOf-cons}
+use Rattle.merge_rules.proofs.Laws.Lists.{anyOf-cons, anyOf-keep}
 
 -- the schema has so many types, and the deck this size
 pub record ElementsInRange (size known : ℕ) (es : Elements) : Type 0 where
@@ -48,6 +48,16 @@ distinct-snoc (u ∷ ts) t h new =
     let differ : eqb (t .file) (u .file) ≡ false = ne-eqb _ _ (λ e. eqb-false (u .file) (t .file) other (sym e)) in
     let (first, later) = distinct-first u ts h in
     rw (any-snoc-false (λ (v : Tree). eqb (v .file) (u .file)) t differ ts, first, treeFilesDistinct) (distinct-snoc ts t later rest)
+
+-- the files of those trees that pass a test differ where all do
+pub distinct-keep : (t : Tree → Bool) (ts : List Tree) → treeFilesDistinct ts ≡ true → treeFilesDistinct (keep t ts) ≡ true
+unfolding treeFilesDistinct keep
+distinct-keep t [] h = refl
+distinct-keep t (u ∷ ts) h =
+    let (first, later) = distinct-first u ts h in
+    bool-case (λ (s : List Tree). treeFilesDistinct s ≡ true) (t u)
+    (λ _. rw (anyOf-keep (λ (v : Tree). eqb (v .file) (u .file)) t ts first, treeFilesDistinct) (distinct-keep t ts later))
+    (λ _. distinct-keep t ts later)
 
 module _ {size known : ℕ} {es : Elements} (h : ElementsInRange size known es) where
   -- more types

@@ -9,7 +9,8 @@ use lib.ListN.{length, length-append}
 use Rattle.tables.specs.Bytes.{bytes}
 use Rattle.tables.specs.Limits.{depthLimit}
 use Rattle.tables.specs.Records.{Element, Tree, Item, child, Model, Fixed, root, depthOf, listOf}
-use Rattle.merge_rules.specs.DeckLines.{treeLines, waitingLines, waits, treesLines}
+use Rattle.state_test.specs.StateTest.{waits}
+use Rattle.merge_rules.specs.DeckLines.{treeLines, waitingLines, treesLines}
 use Rattle.merge_rules.specs.Program.{decimalOf, lineOf, itemLines, elementLines, modelLines}
 use Rattle.merge_rules.specs.Sound.{In, count}
 use Rattle.merge_rules.proofs.Laws.Lists.{keep-all}

@@ -141,6 +141,14 @@ module _ {A : Type 0} (t : A → Bool) where
   pub firstOf-none : (l : List A) → firstOf t l ≡ none → (a : A) → In a l → t a ≡ false
   firstOf-none l h = anyOf-false l (sym (any-none t l h))
 
+  -- not any of the entries that are kept passes where not any entry does
+  pub anyOf-keep : (u : A → Bool) (l : List A) → anyOf t l ≡ false → anyOf t (keep u l) ≡ false
+  unfolding anyOf keep
+  anyOf-keep u [] h = refl
+  anyOf-keep u (x ∷ l) h =
+      let (k, r) = anyOf-cons x l h in
+      bool-case (λ (s : List A). anyOf t s ≡ false) (u x) (λ _. rw (k, anyOf) (anyOf-keep u l r)) (λ _. anyOf-keep u l r)
+
   -- all are kept where each passes
   pub keep-all : (l : List A) → ((a : A) → In a l → t a ≡ true) → keep t l ≡ l
   unfolding keep

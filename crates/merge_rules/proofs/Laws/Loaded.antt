@@ -22,8 +22,7 @@ use Rattle.deck.specs.Deck.{Part, parts, lines, Line, T, G, S, F, M, B, E, C}
 use Rattle.deck.specs.Load.{form, Loading, nothing, kindT, kindG, kindS, kindF, kindM, kindB, putSchema, openTree, putContent, loadT, loadG, loadS, loadF, loadM, mayWait, loadB, owner, inModel, rootSetRule, setRule, nextElement, append, loadRoot, loadChild, loadE, loadC, loadLine, Load, loaded, refusedAt, finish, loadLines, load}
 use Rattle.deck.specs.Schema.{declaredType, declaredFiles, declaresFile, findSubElement, rowOfName}
 use Rattle.deck.proofs.Laws.Load.{owner-within, wait-new, room-left, total-append}
-use Rattle.state_test.specs.StateTest.{schemaValid}
-use Rattle.merge_rules.specs.DeckLines.{waits}
+use Rattle.state_test.specs.StateTest.{schemaValid, waits}
 use Rattle.merge_rules.specs.Sound.{count}
 use Rattle.merge_rules.proofs.Laws.Cases.{and-three, list-case, IfOk, isOk, given-ok, need-bind, given-bind, ok-bind, ok-case}
 use Rattle.merge_rules.proofs.Laws.Elements.{ElementsInRange, elements-nothing, elements-types, elements-element, elements-text, elements-tree}

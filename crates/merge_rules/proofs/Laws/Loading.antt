@@ -17,7 +17,7 @@ use Rattle.tables.proofs.Laws.Model.{parent-add, parent-add-new, set-add, total
 use Rattle.deck.specs.Load.{append, nothing}
 use Rattle.deck.specs.Schema.{declaredFiles, rowOfName}
 use Rattle.deck.proofs.Laws.Load.{append-added}
-use Rattle.merge_rules.specs.DeckLines.{waits}
+use Rattle.state_test.specs.StateTest.{waits}
 use Rattle.merge_rules.specs.Pairing.{children}
 use Rattle.merge_rules.specs.Sound.{In, count, Once, once-nil, ChildValid, ElementsValid, TreeValid, TreesValid, ItemInRange, Kept}
 use Rattle.merge_rules.proofs.Laws.Invariant.{Owns, Inv}

@@ -12,8 +12,9 @@ use Rattle.tables.specs.Lists.{allOf}
 use Rattle.tables.specs.Records.{Element, FileSet, Item, child, text, Entry, import, restriction, extension, Tree, Fixed, State, root, typeOf, depthOf, setOf}
 use Rattle.tables.proofs.Laws.Scans.{each-passes}
 use Rattle.deck.specs.Schema.{declaredFiles}
-use Rattle.state_test.specs.StateTest.{rootSetStored, setDeclared, entryDeclared, treeDeclared, rootValid, itemValid, listsValid, filesDeclared, rootsValid, stateValid}
+use Rattle.state_test.specs.StateTest.{rootSetStored, setDeclared, entryDeclared, treeDeclared, waits, rootValid, itemValid, listsValid, filesDeclared, rootsValid, stateValid}
 use Rattle.merge_rules.specs.Sound.{In, ChildValid, EntryValid, Sound}
+use Rattle.merge_rules.proofs.Laws.Elements.{distinct-keep}
 use Rattle.merge_rules.proofs.Laws.Lists.{allOf-each, at-each}
 use Rattle.merge_rules.proofs.Laws.Loaded.{FixedInRange}
 
@@ -58,7 +59,7 @@ module _ (deck : List ℕ) (x : Fixed) (r : FixedInRange deck x) (s : State) (h 
         sets-declared,
         allOf-each (entryDeclared (x .schema)) (s .log) (λ e i. entry-declared e (h .kept .entries e i)),
         allOf-each (treeDeclared (x .schema)) (x .elements .trees) (λ t i. h .static .trees .valid t i .declared),
-        r .elements .trees,
+        distinct-keep (waits (s .model)) (x .elements .trees) (r .elements .trees),
       )
 
   root-valid : (e : Element) → getD (x .elements .depths) e 0 ≡ 0 → getD (x .elements .types) e 0 ≡ 0 → rootValid x e ≡ true

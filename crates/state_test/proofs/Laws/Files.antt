@@ -1,20 +1,20 @@
 -- Laws of the files of sets, log entries and trees. Assumes nothing.
-use mathlib.Core.Bool.{Bool, true, false, not}
+use mathlib.Core.Bool.{Bool, true, false, not, false≢true}
 use mathlib.Core.List.{List, [], _∷_}
 use mathlib.Core.Path.{_≡_, refl, sym, ap, _∙_}
-use Prim.Native.Nat.{ℕ, suc, _+_, _-_, _≤_, _<_}
+use Prim.Native.Nat.{ℕ, zero, suc, _+_, _-_, _≤_, _<_}
 use native.Mathlib.Omega.{arith}
 use borrow.Author.Tests.{eqb-true, eqb-false}
 use lib.Dec.{eqb}
 use lib.ListN.{length, getD, drop, List·getD-eq-default}
-use Rattle.tables.specs.FileSets.{holds, withFile, noSet, partOf}
-use Rattle.tables.specs.Lists.{anyOf, allOf}
+use Rattle.tables.specs.FileSets.{holds, withFile, noSet, partOf, loadedFiles}
+use Rattle.tables.specs.Lists.{anyOf, allOf, keep}
 use Rattle.tables.specs.Records.{FileNumber, FileSet, File, Schema, Tree, Entry, Log, Model, Fixed, State}
 use Rattle.tables.specs.ElementsTable.{noTree}
 use Rattle.tables.specs.LogTable.{entryAt, noEntry}
 use Rattle.tables.proofs.Laws.FileSets.{holds-withFile, holds-withFile-other, holds-noSet}
 use Rattle.deck.specs.Schema.{declaresFile, filesOf, declaredFiles}
-use Rattle.state_test.specs.StateTest.{rootSetStored, setDeclared, entryDeclared, treeDeclared, treeFilesDistinct, filesDeclared}
+use Rattle.state_test.specs.StateTest.{rootSetStored, setDeclared, entryDeclared, treeDeclared, waits, treeFilesDistinct, filesDeclared}
 use Rattle.tables.proofs.Laws.Scans.{drop-next, drop-end, all-more, all-stop, all-end}
 use Rattle.state_test.proofs.Laws.Answers.{passed, failed}
 
@@ -22,6 +22,14 @@ use Rattle.state_test.proofs.Laws.Answers.{passed, failed}
 pub no-root-set : (m : Model) → length (m .sets) ≤ 0 → false ≡ rootSetStored m
 unfolding rootSetStored
 no-root-set m h = rw (List·getD-eq-default (m .sets) 0 {n = 0} h)
+
+-- and one whose root's set is stored has elements
+pub root-set-there : (m : Model) → rootSetStored m ≡ true → 0 < length (m .sets)
+root-set-there m h = by-count (length (m .sets)) refl
+  where
+    by-count : (n : ℕ) → length (m .sets) ≡ n → 0 < length (m .sets)
+    by-count (suc n) e = omega arith
+    by-count zero e = absurd (false≢true (no-root-set m (omega arith) ∙ h))
 
 -- ---- tests by a set
 
@@ -81,7 +89,7 @@ entries-start t l n e = let z : length l - n ≡ 0 = omega arith in ap (λ (k : 
 pub entries-end : (t : Entry → Bool) (l : Log) (i : ℕ) → i ≤ 0 → allOf t (drop (length l - i) l) ≡ allOf t l → true ≡ allOf t l
 entries-end t l i h inv = sym (all-end t l (length l - i) (omega arith)) ∙ inv
 
--- ---- two trees of one file, by the set of the files so far
+-- ---- two waiting trees of one file, by the set of the files so far
 
 -- no tree's file is in the set, nor among those of the trees before it
 unfoldable pub distinctFrom : FileSet → List Tree → Bool
@@ -130,27 +138,48 @@ distinct-start ts e = rw e (rw (none ts) at (distinct-from noSet ts))
     none [] = refl
     none (t ∷ l) = rw (anyOf, holds-noSet (t .file)) (none l)
 
-module _ (l : List Tree) (i : ℕ) (s : FileSet) (inv : distinctFrom s (drop i l) ≡ treeFilesDistinct l) where
-  -- f the file of tree i, r the answer whether the set holds it
-  module _ (h : i < length l) {f : FileNumber} (is : f ≡ getD l i noTree .file) {r : Bool} (answer : r ≡ holds s f) where
-    tested : {b : Bool} → r ≡ b → holds s (getD l i noTree .file) ≡ b
-    tested e = ap (holds s) (sym is) ∙ sym answer ∙ e
+-- whether a tree waits, by its file and the loaded files
+pub waits-known : (m : Model) (t : Tree) {loaded : FileSet} {f : FileNumber} {b : Bool} → loaded ≡ loadedFiles m → f ≡ t .file → holds loaded f ≡ b
+    → waits m t ≡ not b
+unfolding waits
+waits-known m t a is e = rw (← a, ← is, e)
 
-    pub distinct-stop : r ≡ true → false ≡ treeFilesDistinct l
-    unfolding distinctFrom
-    distinct-stop e =
-        let k : distinctFrom s (drop i l) ≡ false = rw (drop-next l i noTree h, distinctFrom, tested e) in
-        sym k ∙ inv
+module _ (m : Model) (l : List Tree) (i : ℕ) (s : FileSet) (inv : distinctFrom s (keep (waits m) (drop i l)) ≡ treeFilesDistinct (keep (waits m) l)) where
+  -- f the file of tree i, waiting or not
+  module _ (h : i < length l) {loaded : FileSet} (a : loaded ≡ loadedFiles m) {f : FileNumber} (is : f ≡ getD l i noTree .file) where
+    -- a tree of a loaded file is passed over
+    pub distinct-loaded : holds loaded f ≡ true → distinctFrom s (keep (waits m) (drop (i + 1) l)) ≡ treeFilesDistinct (keep (waits m) l)
+    unfolding keep
+    distinct-loaded e =
+        let k : keep (waits m) (drop i l) ≡ keep (waits m) (drop (i + 1) l) = rw (drop-next l i noTree h, keep, waits-known m (getD l i noTree) a is e) in
+        ap (distinctFrom s) (sym k) ∙ inv
 
-    pub distinct-more : r ≡ false → {t : FileSet} → t ≡ withFile s f → distinctFrom t (drop (i + 1) l) ≡ treeFilesDistinct l
-    unfolding distinctFrom
-    distinct-more e q =
-        let k : distinctFrom s (drop i l) ≡ distinctFrom (withFile s (getD l i noTree .file)) (drop (i + 1) l) = rw (drop-next l i noTree h, distinctFrom, tested e) in
-        rw (q, is) (sym k ∙ inv)
+    -- one that waits: r the answer whether the set holds its file
+    module _ (e : holds loaded f ≡ false) {r : Bool} (answer : r ≡ holds s f) where
+      kept : keep (waits m) (drop i l) ≡ getD l i noTree ∷ keep (waits m) (drop (i + 1) l)
+      unfolding keep
+      kept = rw (drop-next l i noTree h, keep, waits-known m (getD l i noTree) a is e)
 
-  pub distinct-end : length l ≤ i → true ≡ treeFilesDistinct l
-  unfolding distinctFrom
-  distinct-end h = let k : distinctFrom s (drop i l) ≡ true = rw (drop-end l i h) in sym k ∙ inv
+      tested : {b : Bool} → r ≡ b → holds s (getD l i noTree .file) ≡ b
+      tested k = ap (holds s) (sym is) ∙ sym answer ∙ k
+
+      pub distinct-stop : r ≡ true → false ≡ treeFilesDistinct (keep (waits m) l)
+      unfolding distinctFrom
+      distinct-stop t =
+          let k : distinctFrom s (keep (waits m) (drop i l)) ≡ false = rw (kept, distinctFrom, tested t) in
+          sym k ∙ inv
+
+      pub distinct-more : r ≡ false → {t : FileSet} → t ≡ withFile s f → distinctFrom t (keep (waits m) (drop (i + 1) l)) ≡ treeFilesDistinct (keep (waits m) l)
+      unfolding distinctFrom
+      distinct-more t q =
+          let k : distinctFrom s (keep (waits m) (drop i l)) ≡ distinctFrom (withFile s (getD l i noTree .file)) (keep (waits m) (drop (i + 1) l)) =
+          rw (kept, distinctFrom, tested t)
+          in
+          rw (q, is) (sym k ∙ inv)
+
+  pub distinct-end : length l ≤ i → true ≡ treeFilesDistinct (keep (waits m) l)
+  unfolding distinctFrom keep
+  distinct-end h = let k : distinctFrom s (keep (waits m) (drop i l)) ≡ true = rw (drop-end l i h) in sym k ∙ inv
 
 -- ---- the whole, at the test that fails first
 
@@ -174,6 +203,7 @@ module _ (x : Fixed) (s : State) where
         unfolding filesDeclared
         files-stop-4 f = rw (filesDeclared, a, b, e, f)
 
-        pub files-last : allOf (treeDeclared (x .schema)) (x .elements .trees) ≡ true → {r : Bool} → r ≡ treeFilesDistinct (x .elements .trees) → r ≡ filesDeclared x s
+        pub files-last : allOf (treeDeclared (x .schema)) (x .elements .trees) ≡ true → {r : Bool} → r ≡ treeFilesDistinct (keep (waits (s .model)) (x .elements .trees))
+            → r ≡ filesDeclared x s
         unfolding filesDeclared
         files-last f g = g ∙ rw (filesDeclared, a, b, e, f)

@@ -1,8 +1,8 @@
 -- What lent tables that pass refusal 0 have beyond their own test. Assumes nothing.
-use mathlib.Core.Bool.{true, false, _&&_, and-eq-true-iff}
+use mathlib.Core.Bool.{true, false, _&&_, and-eq-true-iff, false≢true}
 use mathlib.Core.List.{List, List·Memᴰ}
-use mathlib.Core.Path.{_≡_, refl, sym, _∙_}
-use Prim.Native.Nat.{ℕ, zero, suc, _<_}
+use mathlib.Core.Path.{_≡_, _∙_}
+use Prim.Native.Nat.{ℕ, suc, _<_}
 use native.Mathlib.Nat.{zero-add}
 use native.Mathlib.Omega.{arith}
 use borrow.Author.Tests.{eqb-true}
@@ -11,8 +11,9 @@ use lib.ListN.{length}
 use Rattle.tables.specs.Records.{Element, child, Fixed, State, depthOf, listOf}
 use Rattle.tables.specs.ModelTable.{countOf, modelOf}
 use Rattle.table_test.specs.TablesTest.{tablesPass}
-use Rattle.state_test.specs.StateTest.{schemaValid, filesDeclared, rootsValid, itemValid, listsValid, stateValid, lentTablesPass, fixedIn, stateIn}
-use Rattle.state_test.proofs.Laws.Files.{no-root-set, files-stop-1}
+use Rattle.state_test.specs.StateTest.{schemaValid, rootSetStored, filesDeclared, rootsValid, itemValid, listsValid, stateValid, lentTablesPass, fixedIn, stateIn}
+use Rattle.state_test.proofs.Laws.Files.{root-set-there, files-stop-1}
+use Rattle.tables.proofs.Laws.Cases.{bool-split}
 use Rattle.tables.proofs.Laws.Scans.{all-in}
 use Rattle.state_test.proofs.Laws.Roots.{list-at}
 use Rattle.state_test.proofs.Laws.States.{passed-tables}
@@ -50,15 +51,11 @@ module _ (deck schema es m log : List ℕ) (p : lentTablesPass deck schema es m 
 
   -- the model has a root
   pub root-there : 0 < countOf (modelOf m)
-  root-there = by-count (countOf (modelOf m)) refl
-    where
-      by-count : (n : ℕ) → countOf (modelOf m) ≡ n → 0 < countOf (modelOf m)
-      by-count (suc n) e = omega arith
-      by-count zero e =
-          let sets = passed-tables deck schema es m log p .modelTested .good .sized .sets in
-          let f : false ≡ filesDeclared (fixedIn deck schema es) (stateIn m log) =
-          files-stop-1 (fixedIn deck schema es) (stateIn m log) (sym (no-root-set (modelOf m) (omega arith)))
-          in
-          let z : false ≡ true = f ∙ valid-state .files in
-          let o : _≡_ {A = ℕ} 0 1 = cc in
-          absurd (omega arith)
+  root-there =
+      let x = fixedIn deck schema es in
+      let s = stateIn m log in
+      let sets = passed-tables deck schema es m log p .modelTested .good .sized .sets in
+      let stored : rootSetStored (modelOf m) ≡ true =
+      bool-split (rootSetStored (modelOf m)) (λ e. e) (λ e. absurd (false≢true (files-stop-1 x s e ∙ valid-state .files)))
+      in
+      omega (arith, root-set-there (modelOf m) stored)

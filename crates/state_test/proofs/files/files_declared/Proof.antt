@@ -1,6 +1,7 @@
 -- `files::files_declared` meets its contract: each test that passed is said once, at the place behind it. Assumes nothing.
 use mathlib.Core.Bool.{true}
 use mathlib.Core.Path.{_≡_}
+use native.Mathlib.Omega.{arith}
 use Rattle.tables.specs.Lists.{allOf}
 use Rattle.tables.specs.SchemaTable.{schemaOf}
 use Rattle.tables.specs.ModelTable.{modelOf}
@@ -8,7 +9,7 @@ use Rattle.tables.specs.LogTable.{logOf}
 use Rattle.tables.specs.ElementsTable.{elementsOf}
 use Rattle.state_test.specs.StateTest.{rootSetStored, setDeclared, entryDeclared, treeDeclared, fixedIn, stateIn}
 use Rattle.state_test.proofs.Laws.Answers.{passed, failed}
-use Rattle.state_test.proofs.Laws.Files.{files-stop-1, files-stop-2, files-stop-3, files-stop-4, files-last}
+use Rattle.state_test.proofs.Laws.Files.{root-set-there, files-stop-1, files-stop-2, files-stop-3, files-stop-4, files-last}
 use borrow.Author.Needs.{needs}
 use Rattle.state_test.proofs.files.files_declared.Statement.{statement}
 use Rattle.state_test.proofs.files.files_declared.Tie as tie
@@ -51,6 +52,13 @@ returns-4 c =
     files-stop-4 (fixedIn deck (a .schema .now) (a .elements .now)) (stateIn (a .model .now) (a .log .now)) (root-set (c .before .before .before .before .before .before)) (sets (c .before .before .before .before)) (entries (c .before .before))
     (failed (c .before .trees-declared .ensures _ (c .before .before .before .before .before .before .before .before .declared-files .ensures)) (c .if4 .taken))
 
+tree-files-distinct-requires : tie.Need-tree-files-distinct-requires
+tree-files-distinct-requires c κs =
+    let s = c .before .before .before .before .before .before .before .before .before .before .before .before .before in
+    let there = root-set-there (modelOf (s .args .model .now)) (root-set (c .before .before .before .before .before .before)) in
+    let (elements, (trees, (model, log))) = s .pre .1 .1 in
+    (elements, (trees, (model, omega (arith, model .sized .sets))))
+
 returns-5 : tie.Need-returns-5
 returns-5 c =
     let a = c .before .before .before .before .before .before .before .before .before .before .before .before .before .before .args in
@@ -60,4 +68,4 @@ returns-5 c =
 
 pub files-declared-spec : {M : Type 1} → statement M
 files-declared-spec =
-    tie.close (tie.spec (λ c κs. search needs) (λ c κs. search needs) returns (λ c κs. search needs) returns-2 (λ c κs. search needs) returns-3 (λ c κs. search needs) returns-4 (λ c κs. search needs) returns-5)
+    tie.close (tie.spec (λ c κs. search needs) (λ c κs. search needs) returns (λ c κs. search needs) returns-2 (λ c κs. search needs) returns-3 (λ c κs. search needs) returns-4 tree-files-distinct-requires returns-5)
