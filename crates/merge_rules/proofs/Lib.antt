@@ -4,6 +4,7 @@ pub mod Laws
 pub mod Withdrawal
 pub mod Passing
 pub mod TableWithdrawal
+pub mod WithdrawalRows
 pub mod Depth
 pub mod PrintsBack
 pub mod Refused

@@ -12,6 +12,7 @@ pub mod Program
 pub mod Stars
 pub mod Withdrawal
 pub mod TableWithdrawal
+pub mod WithdrawalRows
 pub mod Sound
 pub mod Standing
 pub mod DeckLines
