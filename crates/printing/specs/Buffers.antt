@@ -1,8 +1,10 @@
 -- A part of a text in a lent buffer, written from its start: so many bytes of the text are passed over first, and what does not fit is left out.
 -- Assumes nothing.
+use mathlib.Core.Bool.{Bool, _&&_}
 use mathlib.Core.List.{List, [], _++_}
 use mathlib.Core.Path.{_≡_}
 use Prim.Native.Nat.{ℕ, zero, suc, _+_, _-_, min}
+use lib.Dec.{eqb, leb}
 use lib.ListN.{length, take, drop}
 use lib.Seq.{paste}
 use Rattle.printing.specs.declared.buffer.Written as program
@@ -22,6 +24,10 @@ appended b text =
     let rest = drop (b .skip) text in
     let n = min (length rest) (length (b .held) - b .count) in
     record { held = paste (b .held) (b .count) rest n; skip = b .skip - length text; count = b .count + n }
+
+-- nothing is to be passed over any more, and there is no room: whatever the text, the buffer stays
+unfoldable pub isFull : Buffer → Bool
+isFull b = eqb (b .skip) 0 && leb (length (b .held)) (b .count)
 
 -- what a call that appends a text leaves: the whole buffer, and what its answer counts
 pub record Appends (before : Buffer) (text : List ℕ) (after : Buffer) : Type 0 where

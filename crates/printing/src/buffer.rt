@@ -3,7 +3,7 @@ ghost use mathlib.Core.List.{[], _∷_, _++_};
 ghost use mathlib.Core.Path.{_≡_};
 ghost use Prim.Native.Nat.{suc, _<_, _≤_};
 ghost use Rattle.merge_rules.specs.Program.{digitByte, digitsBefore};
-ghost use Rattle.printing.specs.Buffers.{bufferIs, Appends};
+ghost use Rattle.printing.specs.Buffers.{bufferIs, isFull, Appends};
 
 // How many bytes of the text are still to be passed over, and the count of bytes written from the buffer's start.
 pub struct Written {
@@ -30,6 +30,16 @@ pub fn append_byte(out: &mut [u8], w: Written, b: u8) -> Written
         skip: 0,
         count: at + 1,
     }
+}
+
+// No text changes the buffer any more.
+pub fn is_full(out: &[u8], w: Written) -> bool
+    ensures { λ r. ⌜ r ≡ isFull (bufferIs w (now (out .entry))) ⌝ }
+{
+    if w.skip != 0 {
+        return false;
+    }
+    out.len() <= w.count
 }
 
 pub fn append_bytes(out: &mut [u8], w: Written, text: &[u8]) -> Written

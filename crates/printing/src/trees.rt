@@ -2,6 +2,7 @@
 use crate::buffer::Written;
 use crate::buffer::append_bytes;
 use crate::buffer::append_number;
+use crate::buffer::is_full;
 use crate::lines::append_element_line;
 use crate::lines::append_text_line;
 use tables::elements::element_depth;
@@ -21,10 +22,10 @@ ghost use Rattle.tables.specs.Lists.{keep};
 ghost use Rattle.tables.specs.Records.{Item, listOf, depthOf};
 ghost use Rattle.tables.specs.ElementsTable.{elementsOf, noTree};
 ghost use Rattle.tables.specs.ModelTable.{countOf, modelOf, itemIs};
-ghost use Rattle.state_test.specs.StateTest.{fixedIn};
+ghost use Rattle.state_test.specs.StateTest.{waits, fixedIn};
 ghost use Rattle.merge_rules.specs.Program.{itemLines, elementLines, modelLines};
 ghost use Rattle.printing.specs.Buffers.{bufferIs, Appends};
-ghost use Rattle.merge_rules.specs.DeckLines.{treeLines, waits, waitingLines, treesLines};
+ghost use Rattle.merge_rules.specs.DeckLines.{treeLines, waitingLines, treesLines};
 ghost use Rattle.printing.specs.TreeLines.{Readable, ItemIn};
 
 // At most `left` levels of elements are printed.
@@ -75,6 +76,7 @@ fn append_items(
     k
 }
 
+// Ends where the buffer is full: the lists below may share elements, and print more bytes than any buffer has.
 fn append_item(
     deck: &[u8],
     elements: &[u64],
@@ -89,6 +91,9 @@ fn append_item(
     requires { ⌜ ItemIn (now elements) (now model) (itemIs a) ⌝ }
     ensures { λ r. ⌜ ((schema : List ℕ) → Appends (bufferIs w (now (out .entry))) (itemLines (elementLines left (fixedIn (now (deck .entry)) schema (now (elements .entry))) (modelOf (now (model .entry)))) (fixedIn (now (deck .entry)) schema (now (elements .entry))) depth (itemIs a ∷ [])) (bufferIs r (now (out .exit)))) ⌝ }
 {
+    if is_full(out, w) {
+        return w;
+    }
     match a {
         Item::Child(x) => {
             let e = x.0;

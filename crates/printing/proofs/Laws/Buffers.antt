@@ -1,13 +1,16 @@
 -- Laws of a text in a lent buffer: a byte, one text behind another, and a text in several turns. Assumes nothing.
+use mathlib.Core.Bool.{true, and-eq-true-iff}
 use mathlib.Core.List.{List, [], _∷_, _++_}
 use mathlib.Core.Path.{_≡_, refl, sym, ap, _∙_}
 use Prim.Native.Nat.{ℕ, zero, suc, _+_, _-_, _≤_, _<_, min}
 use native.Mathlib.Nat.{add-zero, sub-zero, suc-sub-suc, suc-min-suc}
 use native.Mathlib.Numerals.{add-one}
 use native.Mathlib.Omega.{arith}
+use borrow.Author.Tests.{eqb-true, leb-true}
+use lib.Dec.{eqb, leb}
 use lib.ListN.{length, getD, take, drop, set, length-set, drop-of-length-le}
 use lib.Seq.{paste-zero, length-paste, take-suc-set, drop-set-lt, drop-nil, append-snoc, drop-cons}
-use Rattle.printing.specs.Buffers.{Buffer, appended, Appends}
+use Rattle.printing.specs.Buffers.{Buffer, appended, isFull, Appends}
 
 equal : {xs ys : List ℕ} {j k m n : ℕ} → xs ≡ ys → j ≡ k → m ≡ n
     → _≡_ {A = Buffer} (record { held = xs; skip = j; count = m }) (record { held = ys; skip = k; count = n })
@@ -34,6 +37,16 @@ full b t h = unwritten b t (omega arith)
 pub full-stays : (b : Buffer) (text : List ℕ) → length (b .held) ≤ b .count → (appended b text .held ≡ b .held) × (appended b text .count ≡ b .count)
 full-stays b text h = let e = full b text h in (sym (ap (λ (a : Buffer). a .held) e), sym (ap (λ (a : Buffer). a .count) e))
 
+-- and where nothing is to be passed over, so is what is counted
+pub left-out : (b : Buffer) (t : List ℕ) → b .skip ≡ 0 → length (b .held) ≤ b .count → Appends b t b
+left-out b t z h = record { is = equal refl (omega arith) refl ∙ full b t h }
+
+pub full-left-out : (b : Buffer) (t : List ℕ) → isFull b ≡ true → Appends b t b
+unfolding isFull
+full-left-out b t e =
+    let (z, h) = and-eq-true-iff (eqb (b .skip) 0) (leb (length (b .held)) (b .count)) .0 e in
+    left-out b t (eqb-true (b .skip) 0 z) (leb-true (length (b .held)) (b .count) h)
+
 -- ---- a byte before a text
 
 -- the byte is passed over
@@ -53,7 +66,7 @@ module _ (b : Buffer) (x : ℕ) (t : List ℕ) where
       ∙ ap (λ (k : ℕ). appended (record { held = b .held; skip = k; count = b .count }) (x ∷ t)) e
 
   byte-out : b .skip ≡ 0 → length (b .held) ≤ b .count → appended b t ≡ appended b (x ∷ t)
-  byte-out z h = sym (full b t h) ∙ equal refl (omega arith) refl ∙ full b (x ∷ t) h
+  byte-out z h = sym (left-out b t z h .is) ∙ left-out b (x ∷ t) z h .is
 
   byte-first : b .skip ≡ 0 → b .count < length (b .held) → appended (withByte b x) t ≡ appended b (x ∷ t)
   unfolding appended
@@ -74,9 +87,6 @@ module _ (b : Buffer) (x : ℕ) (t : List ℕ) where
 module _ (b : Buffer) (x : ℕ) where
   pub byte-passed : (b .skip ≡ 0 → ⊥) → Appends b (x ∷ []) (past b)
   byte-passed h = record { is = appended-nothing (past b) ∙ byte-past b x [] h }
-
-  pub byte-left-out : b .skip ≡ 0 → length (b .held) ≤ b .count → Appends b (x ∷ []) b
-  byte-left-out z h = record { is = appended-nothing b ∙ byte-out b x [] z h }
 
   pub byte-written : b .skip ≡ 0 → b .count < length (b .held) → Appends b (x ∷ []) (withByte b x)
   byte-written z h = record { is = appended-nothing (withByte b x) ∙ byte-first b x [] z h }

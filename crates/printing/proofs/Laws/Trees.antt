@@ -1,5 +1,5 @@
 -- Laws of the lines of an element, of its items, and of the trees. Assumes nothing.
-use mathlib.Core.Bool.{Bool, true, false, not}
+use mathlib.Core.Bool.{true, false}
 use mathlib.Core.List.{List, [], _∷_, _++_, append-nil}
 use mathlib.Core.Path.{_≡_, refl, sym, ap, subst}
 use Prim.Native.Nat.{ℕ, suc, _+_, _-_, _≤_, _<_}
@@ -14,10 +14,12 @@ use Rattle.tables.specs.ModelTable.{countOf, modelOf, itemIs, ItemBelow}
 use Rattle.tables.specs.declared.numbers.Element as numbers
 use Rattle.tables.specs.declared.model.Item as program
 use Rattle.tables.specs.declared.model.Item.the-variants.{Child, Text}
+use Rattle.state_test.specs.StateTest.{waits}
+use Rattle.state_test.proofs.Laws.Files.{waits-known}
 use Rattle.merge_rules.specs.Program.{digitsBefore, decimalOf, lineOf, textLine, elementLine, itemLines, elementLines, modelLines}
 use Rattle.tables.proofs.Laws.ModelTable.{item-below}
 use Rattle.printing.specs.Buffers.{Buffer, Appends}
-use Rattle.merge_rules.specs.DeckLines.{treeLines, waits, waitingLines, treesLines}
+use Rattle.merge_rules.specs.DeckLines.{treeLines, waitingLines, treesLines}
 use Rattle.printing.specs.TreeLines.{Readable, ItemIn}
 use Rattle.printing.proofs.Laws.Buffers.{reads, nothing, Leaves, list-turn, list-end}
 use Rattle.tables.specs.Limits.{depthLimit}
@@ -98,18 +100,14 @@ module _ (x : Fixed) (m : Model) where
 
   module _ (l : List Tree) (t : ℕ) {start now : Buffer} {w : List ℕ} {loaded file : ℕ} (h : t < length l) (v : Leaves start w now (keptLines (drop t l)))
       (a : loaded ≡ loadedFiles m) (f : file ≡ getD l t noTree .file) where
-    waiting-known : {b : Bool} → holds loaded file ≡ b → waits m (getD l t noTree) ≡ not b
-    unfolding waits
-    waiting-known e = rw (← a, ← f, e)
-
     -- a tree that is merged is not printed
     pub merged-turn : holds loaded file ≡ true → Leaves start w now (keptLines (drop (t + 1) l))
     unfolding keep
-    merged-turn e = list-turn keptLines l t noTree h (rw (keep, waiting-known e)) v (nothing now)
+    merged-turn e = list-turn keptLines l t noTree h (rw (keep, waits-known m (getD l t noTree) a f e)) v (nothing now)
 
     pub waiting-turn : {b : Buffer} → holds loaded file ≡ false → Appends now (treeLines x m (getD l t noTree)) b → Leaves start w b (keptLines (drop (t + 1) l))
     unfolding keep waitingLines
-    waiting-turn e p = list-turn keptLines l t noTree h (rw (keep, waiting-known e)) v p
+    waiting-turn e p = list-turn keptLines l t noTree h (rw (keep, waits-known m (getD l t noTree) a f e)) v p
 
   pub waiting-end : (l : List Tree) (t : ℕ) {start now : Buffer} {w : List ℕ} → length l ≤ t → Leaves start w now (keptLines (drop t l)) → Appends start w now
   unfolding keep waitingLines

@@ -3,7 +3,7 @@ use borrow.Author.Needs.{needs}
 use mathlib.Core.List.{List, []}
 use Prim.Native.Nat.{ℕ, suc, _+_, _-_, _*_, _<_, _≤_}
 use native.Mathlib.Omega.{arith}
-use mathlib.Core.Path.{ap, _∙_}
+use mathlib.Core.Path.{sym, ap, _∙_}
 use native.Mathlib.Numerals.{add-one}
 use lib.ListN.{length, drop}
 use Rattle.tables.specs.Records.{Item, depthOf, listOf}
@@ -11,7 +11,7 @@ use Rattle.tables.specs.ModelTable.{modelOf}
 use Rattle.state_test.specs.StateTest.{fixedIn}
 use Rattle.merge_rules.specs.Program.{itemLines, elementLines}
 use Rattle.printing.specs.Buffers.{bufferIs}
-use Rattle.printing.proofs.Laws.Buffers.{then, reads, Leaves, begin, as-long}
+use Rattle.printing.proofs.Laws.Buffers.{full-left-out, then, reads, Leaves, begin, as-long}
 use Rattle.printing.proofs.Laws.Trees.{elements-none, elements-more, child-lines, text-lines, items-turn, items-end, listed-in, child-in, text-in}
 use borrow.Fn.Kinds.{In}
 use borrow.Fn.PlainCycle.{Measures, is, falls, and}
@@ -24,6 +24,7 @@ use Rattle.printing.proofs.trees.+append_element+append_item+append_ite
 use Rattle.printing.proofs.trees.append_items.Reads as append-items
 use Rattle.printing.proofs.trees.append_items.Kinds as append-items-kinds
 use Rattle.printing.proofs.trees.+append_element+append_item+append_items.Lts-append_items as append-items-lts
+use Rattle.printing.proofs.buffer.is_full.Reads as is-full-reads
 use Rattle.printing.proofs.lines.append_element_line.Reads as append-element-line-reads
 use Rattle.printing.proofs.lines.append_text_line.Reads as append-text-line-reads
 use Rattle.tables.proofs.elements.element_depth.Reads as element-depth-reads
@@ -99,6 +100,8 @@ append-items-has t = (
 
 abbrev append-item-has : ℕ → append-item-lts.Claims
 append-item-has t = (
+  is-full-reads.Asked,
+  is-full-reads.Learnt,
   append-element-below t,
   append-element.Post,
   append-text-line-reads.Asked,
@@ -120,21 +123,24 @@ append-element-returns-2 t c =
     (elements-more _ _ _ _ (c .before .before .before .before .before .before .before .before .if1 .left))
     (then (c .before .before .before .before .before .before .append-element-line .ensures schema) (c .before .before .append-items .ensures schema))
 
+append-item-returns : (t : ℕ) → append-item-lts.Need-returns (append-item-has t) (append-item-at t) append-item.Post
+append-item-returns t c = λ schema. full-left-out _ _ (sym (c .before .is-full .ensures) ∙ c .if1 .taken)
+
 append-item-append-element-requires : (t : ℕ) → append-item-lts.Need-append-element-requires (append-item-has t) (append-item-at t) append-item.Post
 append-item-append-element-requires t c κs =
-    let s = c .before .before .before .before .before .before .before .before in
+    let s = c .before .before .before .before .before .before .before .before .before .before .before in
     (omega (arith, s .pre .0), (s .pre .1 .0, child-in (s .pre .1 .0) (s .args .a) _ (c .before .before .a .given .1) (s .pre .1 .1)))
 
 append-item-append-text-line-requires : (t : ℕ) → append-item-lts.Need-append-text-line-requires (append-item-has t) (append-item-at t) append-item.Post
 append-item-append-text-line-requires t c κs =
-    let s = c .before .before .before .before .before .before .before .before in
+    let s = c .before .before .before .before .before .before .before .before .before .before .before in
     (s .pre .1 .0, text-in (s .pre .1 .0) (s .args .a) _ (c .before .before .a2 .given .1) (s .pre .1 .1))
 
-append-item-returns : (t : ℕ) → append-item-lts.Need-returns (append-item-has t) (append-item-at t) append-item.Post
-append-item-returns t c = λ schema. reads (child-lines _ _ _ _ _ (c .before .before .before .before .before .a .given .1)) (c .before .before .append-element .ensures schema)
-
 append-item-returns-2 : (t : ℕ) → append-item-lts.Need-returns-2 (append-item-has t) (append-item-at t) append-item.Post
-append-item-returns-2 t c = λ schema. reads (text-lines _ _ _ _ _ (c .before .before .before .before .before .a2 .given .1)) (c .before .before .append-text-line .ensures schema)
+append-item-returns-2 t c = λ schema. reads (child-lines _ _ _ _ _ (c .before .before .before .before .before .a .given .1)) (c .before .before .append-element .ensures schema)
+
+append-item-returns-3 : (t : ℕ) → append-item-lts.Need-returns-3 (append-item-has t) (append-item-at t) append-item.Post
+append-item-returns-3 t c = λ schema. reads (text-lines _ _ _ _ _ (c .before .before .before .before .before .a2 .given .1)) (c .before .before .append-text-line .ensures schema)
 
 abbrev items : List ℕ → List ℕ → List ℕ → List ℕ → ℕ → ℕ → List Item → List ℕ
 items deck elements model schema left e l =
@@ -207,14 +213,17 @@ pub +append-element+append-item+append-items-spec : {M : Type 1} → statement M
     (append-item-has t)
     (append-item-at t)
     append-item.Post
+    (λ c κs. search needs)
+    (λ c. search needs)
+    (append-item-returns t)
     (λ c. search needs)
     (append-item-append-element-requires t)
     (λ c. search needs)
     (append-item-append-text-line-requires t)
     (λ c. search needs)
-    (append-item-returns t)
+    (append-item-returns-2 t)
     (λ c. search needs)
-    (append-item-returns-2 t))
+    (append-item-returns-3 t))
     λ t. append-items-lts.spec
     (append-items-has t)
     (append-items-at t)
