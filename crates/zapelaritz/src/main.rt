@@ -7,7 +7,6 @@ use streams::buffer::megabyte;
 use streams::input::CALLS_LIMIT;
 use streams::input::read_all;
 use streams::parts::print_all;
-use tables::limits::DECK_LIMIT;
 
 // A line on standard error: what it is about, and why.
 fn complain(what: &[u8], why: &[u8]) {
@@ -24,9 +23,6 @@ fn run(name: &[u8], fd: i32, calls: &[u8], listed: bool) {
         return;
     }
     let n = r.count;
-    if DECK_LIMIT < n {
-        complain(name, b": longer than the 32768 bytes of the largest deck\n");
-    }
     print_all(&deck[..n], calls, listed);
 }
 
