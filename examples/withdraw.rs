@@ -10,7 +10,7 @@ use std::fs;
 use std::io::{self, BufWriter, Write};
 use std::process::ExitCode;
 
-use zapelaritz::Model;
+use zapelaritz::{FileId, Model};
 
 fn main() -> ExitCode {
     let arguments: Vec<OsString> = env::args_os().skip(1).collect();
@@ -32,7 +32,7 @@ fn run(arguments: &[OsString]) -> Result<(), Box<dyn Error>> {
     let files = files
         .iter()
         .map(file_number)
-        .collect::<Result<Vec<u64>, String>>()?;
+        .collect::<Result<Vec<FileId>, String>>()?;
     let deck = fs::read(path).map_err(|error| format!("{name}: {error}"))?;
 
     let mut out = BufWriter::new(io::stdout().lock());
@@ -61,19 +61,19 @@ fn run(arguments: &[OsString]) -> Result<(), Box<dyn Error>> {
             )?,
         }
     }
-    out.write_all(&model.model_lines())?;
+    out.write_all(model.model_lines().as_bytes())?;
     let entries = model.rollback(mark)?;
     writeln!(out, "rolledback,{mark},{entries}")?;
     out.flush()?;
     Ok(())
 }
 
-fn file_number(argument: &OsString) -> Result<u64, String> {
+fn file_number(argument: &OsString) -> Result<FileId, String> {
     let text = argument.to_string_lossy();
     text.parse()
         .map_err(|_| format!("{text}: not a file number"))
 }
 
-fn or_dash(number: Option<u64>) -> String {
+fn or_dash(number: Option<impl ToString>) -> String {
     number.map_or("-".into(), |number| number.to_string())
 }

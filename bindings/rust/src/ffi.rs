@@ -11,19 +11,19 @@
 #[cfg(test)]
 mod edges;
 
-/// A call's result: the answer has the results.
-pub(crate) const ACCEPTED: u64 = 0;
+/// What an accepted call returns; a refused one returns the refusal's number.
+pub(crate) const ACCEPTED: u64 = 255;
 
-/// A call's result: the answer has the refusal.
-pub(crate) const REFUSED: u64 = 1;
+/// The numbers of an answer: an accepted call's results, or the refusal's number and what it carries; zeros behind.
+pub(crate) const ANSWER_SIZE: usize = 4;
 
-/// A call's result: the lent answer has another size, and nothing was done.
-pub(crate) const NOT_MADE: u64 = 2;
-
-/// The numbers of an answer.
-pub(crate) const ANSWER_SIZE: usize = 3;
+/// A function that prints a part of what loaded tables hold.
+pub(crate) type Print =
+    fn(&[u8], &[u64], &[u64], &[u64], &[u64], usize, &mut [u8], &mut [u64]) -> u64;
 
 extern "C" {
+    fn zapelaritz_version() -> u64;
+
     fn zapelaritz_deck_limit() -> usize;
 
     fn zapelaritz_schema_size() -> usize;
@@ -134,6 +134,42 @@ extern "C" {
         answer_length: usize,
     ) -> u64;
 
+    fn zapelaritz_print_trees(
+        deck: *const u8,
+        deck_length: usize,
+        schema: *const u64,
+        schema_length: usize,
+        elements: *const u64,
+        elements_length: usize,
+        model: *const u64,
+        model_length: usize,
+        log: *const u64,
+        log_length: usize,
+        from: usize,
+        out: *mut u8,
+        out_length: usize,
+        answer: *mut u64,
+        answer_length: usize,
+    ) -> u64;
+
+    fn zapelaritz_print_log(
+        deck: *const u8,
+        deck_length: usize,
+        schema: *const u64,
+        schema_length: usize,
+        elements: *const u64,
+        elements_length: usize,
+        model: *const u64,
+        model_length: usize,
+        log: *const u64,
+        log_length: usize,
+        from: usize,
+        out: *mut u8,
+        out_length: usize,
+        answer: *mut u64,
+        answer_length: usize,
+    ) -> u64;
+
     fn zapelaritz_print_output(
         deck: *const u8,
         deck_length: usize,
@@ -151,6 +187,11 @@ extern "C" {
         out: *mut u8,
         out_length: usize,
     ) -> usize;
+}
+
+pub(crate) fn version() -> u64 {
+    // SAFETY: the function takes nothing.
+    unsafe { zapelaritz_version() }
 }
 
 pub(crate) fn deck_limit() -> usize {
@@ -341,6 +382,70 @@ pub(crate) fn print_model(
     // SAFETY: as for `load`.
     unsafe {
         zapelaritz_print_model(
+            deck.as_ptr(),
+            deck.len(),
+            schema.as_ptr(),
+            schema.len(),
+            elements.as_ptr(),
+            elements.len(),
+            model.as_ptr(),
+            model.len(),
+            log.as_ptr(),
+            log.len(),
+            from,
+            out.as_mut_ptr(),
+            out.len(),
+            answer.as_mut_ptr(),
+            answer.len(),
+        )
+    }
+}
+
+pub(crate) fn print_trees(
+    deck: &[u8],
+    schema: &[u64],
+    elements: &[u64],
+    model: &[u64],
+    log: &[u64],
+    from: usize,
+    out: &mut [u8],
+    answer: &mut [u64],
+) -> u64 {
+    // SAFETY: as for `load`.
+    unsafe {
+        zapelaritz_print_trees(
+            deck.as_ptr(),
+            deck.len(),
+            schema.as_ptr(),
+            schema.len(),
+            elements.as_ptr(),
+            elements.len(),
+            model.as_ptr(),
+            model.len(),
+            log.as_ptr(),
+            log.len(),
+            from,
+            out.as_mut_ptr(),
+            out.len(),
+            answer.as_mut_ptr(),
+            answer.len(),
+        )
+    }
+}
+
+pub(crate) fn print_log(
+    deck: &[u8],
+    schema: &[u64],
+    elements: &[u64],
+    model: &[u64],
+    log: &[u64],
+    from: usize,
+    out: &mut [u8],
+    answer: &mut [u64],
+) -> u64 {
+    // SAFETY: as for `load`.
+    unsafe {
+        zapelaritz_print_log(
             deck.as_ptr(),
             deck.len(),
             schema.as_ptr(),

@@ -1,9 +1,9 @@
 //! Where the tables hold what, as `crates/tables` states it: counts first, then areas one behind the other, each with room
 //! for a number of rows of one width. Unused cells are zero, and a cell that is not there reads as zero.
 
-const TYPE_LIMIT: usize = 128;
-const GROUP_LIMIT: usize = 128;
-const ROW_LIMIT: usize = 512;
+pub(crate) const TYPE_LIMIT: usize = 128;
+pub(crate) const GROUP_LIMIT: usize = 128;
+pub(crate) const ROW_LIMIT: usize = 512;
 pub(crate) const FILE_LIMIT: usize = 64;
 pub(crate) const ELEMENT_LIMIT: usize = 1024;
 pub(crate) const ITEM_LIMIT: usize = 2048;
@@ -55,15 +55,36 @@ impl Area {
 pub(crate) mod schema {
     use super::*;
 
+    pub(crate) const TYPE_COUNT: usize = 0;
+    pub(crate) const GROUP_COUNT: usize = 1;
+    pub(crate) const ROW_COUNT: usize = 2;
     pub(crate) const FILE_COUNT: usize = 3;
 
-    const TYPES: Area = Area::new(4, 3, TYPE_LIMIT);
-    const GROUPS: Area = Area::new(TYPES.end(), 6, GROUP_LIMIT);
-    const ROWS: Area = Area::new(GROUPS.end(), 9, ROW_LIMIT);
+    pub(crate) const TYPES: Area = Area::new(4, 3, TYPE_LIMIT);
+    pub(crate) const GROUPS: Area = Area::new(TYPES.end(), 6, GROUP_LIMIT);
+    pub(crate) const ROWS: Area = Area::new(GROUPS.end(), 9, ROW_LIMIT);
     pub(crate) const FILES: Area = Area::new(ROWS.end(), 2, FILE_LIMIT);
     /// 512 heads and 512 links each.
     const INDEXES: Area = Area::new(FILES.end(), 512 + 512, 3);
     pub(crate) const SIZE: usize = INDEXES.end();
+
+    // Cells of a type.
+    pub(crate) const MODE: usize = 0;
+    pub(crate) const NAMED: usize = 1;
+    pub(crate) const SPLIT: usize = 2;
+
+    // Cells of a group; a path has four.
+    pub(crate) const GROUP_TYPE: usize = 0;
+    pub(crate) const GROUP_PATH: usize = 1;
+    pub(crate) const GROUP_MODE: usize = 5;
+
+    // Cells of a row.
+    pub(crate) const ROW_TYPE: usize = 0;
+    pub(crate) const ROW_PATH: usize = 1;
+    pub(crate) const ROW_NAME: usize = 5;
+    pub(crate) const ROW_CHILD: usize = 6;
+    pub(crate) const ROW_MULT: usize = 7;
+    pub(crate) const ROW_MASK: usize = 8;
 
     // Cells of a file.
     pub(crate) const FILE: usize = 0;

@@ -7,9 +7,9 @@
 //! deliveries that wait. `docs/DECK.md` describes decks, lists of calls and refusals.
 //!
 //! ```
-//! use zapelaritz::Model;
+//! use zapelaritz::{FileId, Model};
 //!
-//! let deck = b"\
+//! let deck = "\
 //! T,0,0,0,f
 //! T,1,4,0,0
 //! S,0,0,3,1,2,f
@@ -30,11 +30,11 @@
 //! let mut model = Model::load(deck)?;
 //! let mark = model.mark();
 //!
-//! let counts = model.merge(1)?;
+//! let counts = model.merge(FileId(1))?;
 //! assert_eq!(counts.imports, 2);
 //! assert_eq!(counts.restrictions, 1);
 //! assert_eq!(counts.extensions, 1);
-//! let merged = b"\
+//! let merged = "\
 //! E,0,0,3
 //! E,1,3,1
 //! C,2,s,p
@@ -64,19 +64,25 @@
     )
 )]
 
+mod deck;
 #[allow(unsafe_code)]
 mod ffi;
 mod file_set;
 mod layout;
 mod log;
 mod model;
+mod numbers;
 mod print;
 mod refusal;
+mod schema;
 mod tree;
 
+pub use deck::{BuildError, DeckBuilder, Node};
 pub use file_set::FileSet;
-pub use log::Entry;
+pub use log::{Entry, StandingMerge, StandingMerges};
 pub use model::{Counts, File, Model, Places};
-pub use print::{calls_output, output};
+pub use numbers::{ElementId, FileId, Mark, Name, TypeId, Version};
+pub use print::{calls_output, output, version};
 pub use refusal::{LoadError, Refusal};
+pub use schema::{Group, Mode, Mult, Row, Schema, SchemaPath, Type, VersionMask};
 pub use tree::{Element, Item, Subtree, Text, Tree};

@@ -1,6 +1,9 @@
 use std::error::Error;
 use std::fmt;
 
+use crate::ffi::ANSWER_SIZE;
+use crate::numbers::{ElementId, Name};
+
 /// Why a deck was not loaded.
 ///
 /// A line is counted from 1; line 0 is the deck as a whole.
@@ -39,7 +42,8 @@ pub enum LoadError {
 }
 
 impl LoadError {
-    pub(crate) fn from_answer([number, line, _]: [u64; 3]) -> LoadError {
+    /// The code is the refusal's number; the answer has it first, and then what it carries.
+    pub(crate) fn from_answer(number: u64, [_, line, ..]: [u64; ANSWER_SIZE]) -> LoadError {
         match number {
             0 => LoadError::BadTables,
             1 => LoadError::Form { line },
@@ -51,6 +55,10 @@ impl LoadError {
     }
 
     /// The refusal's number.
+    ///
+    /// ```
+    /// assert_eq!(zapelaritz::LoadError::TreeRule { line: 3 }.number(), 3);
+    /// ```
     pub fn number(&self) -> u64 {
         match *self {
             LoadError::BadTables => 0,
@@ -63,6 +71,10 @@ impl LoadError {
     }
 
     /// The first bad line, counted from 1; 0 for the deck as a whole.
+    ///
+    /// ```
+    /// assert_eq!(zapelaritz::Model::load("T,0,0,0,0\nX\n").unwrap_err().line(), 2);
+    /// ```
     pub fn line(&self) -> u64 {
         match *self {
             LoadError::BadTables => 0,
@@ -105,19 +117,19 @@ pub enum Refusal {
     /// 6, merge: the delivery cannot be merged.
     Unmergeable {
         /// The element in whose content it failed.
-        element: u64,
+        element: ElementId,
     },
     /// 7, merge and range: the name is not known in the version.
     NotInVersion {
         /// The parent.
-        element: u64,
+        element: ElementId,
         /// The name.
-        name: u64,
+        name: Name,
     },
     /// 8, merge: a delivered element would be used twice.
     UsedTwice {
         /// The first such element.
-        element: u64,
+        element: ElementId,
     },
     /// 9, merge: the log is full; a 1,025th entry is due.
     LogFull,
@@ -128,12 +140,12 @@ pub enum Refusal {
     /// 12, range: the element is of mode 4 (characters) and has no children.
     CharactersParent {
         /// The element.
-        element: u64,
+        element: ElementId,
     },
     /// 13, range: there is no place for the name.
     NoPlace {
         /// The element.
-        element: u64,
+        element: ElementId,
     },
     /// 14, rollback: no mark; the number is above the log's length, or it is not 0 and no merge ended there.
     NoMark,
@@ -145,7 +157,9 @@ pub enum Refusal {
 }
 
 impl Refusal {
-    pub(crate) fn from_answer([number, element, name]: [u64; 3]) -> Refusal {
+    /// As [`LoadError::from_answer`].
+    pub(crate) fn from_answer(number: u64, [_, element, name, _]: [u64; ANSWER_SIZE]) -> Refusal {
+        let (element, name) = (ElementId(element), Name(name));
         match number {
             0 => Refusal::BadTables,
             5 => Refusal::NotWaiting,
@@ -163,6 +177,10 @@ impl Refusal {
     }
 
     /// The refusal's number.
+    ///
+    /// ```
+    /// assert_eq!(zapelaritz::Refusal::NotWaiting.number(), 5);
+    /// ```
     pub fn number(&self) -> u64 {
         match *self {
             Refusal::BadTables => 0,
@@ -181,7 +199,15 @@ impl Refusal {
     }
 
     /// The element that the refusal carries.
-    pub fn element(&self) -> Option<u64> {
+    ///
+    /// ```
+    /// use zapelaritz::{ElementId, Refusal};
+    ///
+    /// let refusal = Refusal::Unmergeable { element: ElementId(4) };
+    /// assert_eq!(refusal.element(), Some(ElementId(4)));
+    /// assert_eq!(Refusal::LogFull.element(), None);
+    /// ```
+    pub fn element(&self) -> Option<ElementId> {
         match *self {
             Refusal::Unmergeable { element }
             | Refusal::NotInVersion { element, .. }
@@ -193,7 +219,15 @@ impl Refusal {
     }
 
     /// The name that the refusal carries.
-    pub fn name(&self) -> Option<u64> {
+    ///
+    /// ```
+    /// use zapelaritz::{ElementId, Name, Refusal};
+    ///
+    /// let refusal = Refusal::NotInVersion { element: ElementId(4), name: Name(3) };
+    /// assert_eq!(refusal.name(), Some(Name(3)));
+    /// assert_eq!(refusal.to_string(), "name 3 is not known in the version, in element 4");
+    /// ```
+    pub fn name(&self) -> Option<Name> {
         match *self {
             Refusal::NotInVersion { name, .. } => Some(name),
             _ => None,
@@ -259,10 +293,10 @@ mod tests {
     #[test]
     fn refusals_keep_their_numbers() {
         for (number, element, name) in REFUSALS {
-            let refusal = Refusal::from_answer([number, 17, 4095]);
+            let refusal = Refusal::from_answer(number, [number, 17, 4095, 0]);
             assert_eq!(refusal.number(), number);
-            assert_eq!(refusal.element(), element.then_some(17));
-            assert_eq!(refusal.name(), name.then_some(4095));
+            assert_eq!(refusal.element(), element.then_some(ElementId(17)));
+            assert_eq!(refusal.name(), name.then_some(Name(4095)));
             assert_ne!(refusal, Refusal::Unknown { number });
             assert_eq!(refusal.to_string().contains("17"), element);
             assert_eq!(refusal.to_string().contains("4095"), name);
@@ -272,23 +306,24 @@ mod tests {
     #[test]
     fn load_errors_keep_their_numbers() {
         for number in 0..=4 {
-            let error = LoadError::from_answer([number, 23, 0]);
+            let error = LoadError::from_answer(number, [number, 23, 0, 0]);
             assert_eq!(error.number(), number);
             assert_eq!(error.line(), if number == 0 { 0 } else { 23 });
             assert_ne!(error, LoadError::Unknown { number, line: 23 });
         }
-        let long = LoadError::from_answer([4, 0, 0]);
+        let long = LoadError::from_answer(4, [4, 0, 0, 0]);
         assert_eq!(long.to_string(), "the deck: a limit is exceeded");
-        let form = LoadError::from_answer([1, 23, 0]);
+        let form = LoadError::from_answer(1, [1, 23, 0, 0]);
         assert_eq!(form.to_string(), "line 23: the form of a line is wrong");
     }
 
     #[test]
     fn other_numbers_stay_themselves() {
         for number in [1, 2, 3, 4, 15, u64::MAX] {
-            assert_eq!(Refusal::from_answer([number, 1, 2]).number(), number);
+            let refusal = Refusal::from_answer(number, [number, 1, 2, 0]);
+            assert_eq!(refusal.number(), number);
         }
-        assert_eq!(LoadError::from_answer([5, 6, 0]).number(), 5);
-        assert_eq!(LoadError::from_answer([5, 6, 0]).line(), 6);
+        let error = LoadError::from_answer(5, [5, 6, 0, 0]);
+        assert_eq!((error.number(), error.line()), (5, 6));
     }
 }

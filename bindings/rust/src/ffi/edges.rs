@@ -27,6 +27,19 @@ C,2,u,7
 
 const MODEL: &[u8] = b"E,0,0,1\nE,1,3,0\nC,2,s,p\n";
 
+const TREES: &[u8] =
+    b"M\nE,0,0,1\nE,1,3,0\nC,2,s,p\nB,1\nE,0,0,0\nE,1,3,0\nC,2,s,q\nE,1,4,0\nC,2,u,7\n";
+
+/// What is printed of the tables of the example as they are loaded.
+const PRINTED: [(Print, &[u8]); 3] = [
+    (print_model, MODEL),
+    (print_trees, TREES),
+    (print_log, b"log,0\n"),
+];
+
+/// Refusal 0: a lent table of a wrong size, or with wrong numbers.
+const TABLES: u64 = 0;
+
 const OUTPUT: &[u8] =
     b"merged,1,2,1,1\nE,0,0,3\nE,1,3,1\nC,2,s,p\nE,1,3,2\nC,2,s,q\nE,1,4,2\nC,2,u,7\n";
 
@@ -46,7 +59,7 @@ struct Lent {
 type Call = fn(&mut Lent) -> u64;
 
 /// The calls on loaded tables, each accepted on those of the example.
-const ON_LOADED: [(&str, Call); 5] = [
+const ON_LOADED: [(&str, Call); 7] = [
     ("merge", |lent| merge_of(lent, 1)),
     ("rollback", |lent| rollback_to(lent, 0)),
     ("range", |lent| range_of(lent, 0, 3, 2)),
@@ -54,7 +67,9 @@ const ON_LOADED: [(&str, Call); 5] = [
         let [schema, elements, model, log] = &lent.tables;
         mark(&lent.deck, schema, elements, model, log, &mut lent.answer)
     }),
-    ("print_model", |lent| print_model_from(lent, 0)),
+    ("print_model", |lent| print_from(print_model, lent, 0)),
+    ("print_trees", |lent| print_from(print_trees, lent, 0)),
+    ("print_log", |lent| print_from(print_log, lent, 0)),
 ];
 
 fn load_of(lent: &mut Lent) -> u64 {
@@ -103,9 +118,9 @@ fn range_of(lent: &mut Lent, element: u64, name: u64, version: u64) -> u64 {
     )
 }
 
-fn print_model_from(lent: &mut Lent, from: usize) -> u64 {
+fn print_from(print: Print, lent: &mut Lent, from: usize) -> u64 {
     let [schema, elements, model, log] = &lent.tables;
-    print_model(
+    print(
         &lent.deck,
         schema,
         elements,
@@ -124,7 +139,7 @@ fn filled(number: u64) -> Lent {
         deck: DECK.to_vec(),
         tables: sizes.map(|size| vec![number; size]),
         out: vec![9; 100],
-        answer: vec![9; 3],
+        answer: vec![9; 4],
     }
 }
 
@@ -132,16 +147,16 @@ fn filled(number: u64) -> Lent {
 fn loaded() -> Lent {
     let mut lent = filled(7);
     assert_eq!(load_of(&mut lent), ACCEPTED);
-    assert_eq!(lent.answer, [0, 0, 0]);
-    lent.answer = vec![9; 3];
+    assert_eq!(lent.answer, [0, 0, 0, 0]);
+    lent.answer = vec![9; 4];
     lent
 }
 
-/// The call is refused with this answer, and changes nothing else.
-fn refuses(name: &str, call: impl Fn(&mut Lent) -> u64, mut lent: Lent, answer: [u64; 3]) {
+/// The call is refused with this answer, returns its first number, and changes nothing else.
+fn refuses(name: &str, call: impl Fn(&mut Lent) -> u64, mut lent: Lent, answer: [u64; 4]) {
     let mut expected = lent.clone();
     expected.answer = answer.to_vec();
-    assert_eq!(call(&mut lent), REFUSED, "{name}");
+    assert_eq!(call(&mut lent), answer[0], "{name}");
     assert_eq!(lent.answer, answer, "{name}");
     assert!(lent == expected, "{name} changes a slice");
 }
@@ -155,18 +170,20 @@ fn wrong_sizes(size: usize) -> [usize; 5] {
 fn answers_of_accepted_calls() {
     let mut lent = loaded();
     assert_eq!(range_of(&mut lent, 0, 3, 2), ACCEPTED);
-    assert_eq!(lent.answer, [0, 1, 0]);
+    assert_eq!(lent.answer, [0, 1, 0, 0]);
     assert_eq!(merge_of(&mut lent, 1), ACCEPTED);
-    assert_eq!(lent.answer, [2, 1, 1]);
+    assert_eq!(lent.answer, [2, 1, 1, 0]);
     let (_, mark) = ON_LOADED[3];
     assert_eq!(mark(&mut lent), ACCEPTED);
-    assert_eq!(lent.answer, [4, 0, 0]);
+    assert_eq!(lent.answer, [4, 0, 0, 0]);
     assert_eq!(rollback_to(&mut lent, 0), ACCEPTED);
-    assert_eq!(lent.answer, [4, 0, 0]);
+    assert_eq!(lent.answer, [4, 0, 0, 0]);
     assert_eq!(mark(&mut lent), ACCEPTED);
-    assert_eq!(lent.answer, [0, 0, 0]);
-    assert_eq!(print_model_from(&mut lent, 0), ACCEPTED);
-    assert_eq!(lent.answer, [MODEL.len() as u64, 0, 0]);
+    assert_eq!(lent.answer, [0, 0, 0, 0]);
+    for (print, text) in PRINTED {
+        assert_eq!(print_from(print, &mut lent, 0), ACCEPTED);
+        assert_eq!(lent.answer, [text.len() as u64, 0, 0, 0]);
+    }
 }
 
 #[test]
@@ -179,9 +196,9 @@ fn load_into_tables_of_wrong_sizes() {
             for cell in expected.tables.iter_mut().flatten() {
                 *cell = 0;
             }
-            expected.answer = vec![0, 0, 0];
-            assert_eq!(load_of(&mut lent), REFUSED);
-            assert_eq!(lent.answer, [0, 0, 0]);
+            expected.answer = vec![0; 4];
+            assert_eq!(load_of(&mut lent), TABLES);
+            assert_eq!(lent.answer, [0; 4]);
             assert!(lent == expected, "table {table} of size {size}");
         }
     }
@@ -191,11 +208,11 @@ fn load_into_tables_of_wrong_sizes() {
 fn load_of_decks_of_other_lengths() {
     let cut = DECK[..DECK.len() - 1].to_vec();
     let long = [DECK, &vec![b'\n'; deck_limit()]].concat();
-    for (deck, answer) in [(vec![], [3, 0, 0]), (cut, [1, 16, 0]), (long, [4, 0, 0])] {
+    for (deck, number, line) in [(vec![], 3, 0), (cut, 1, 16), (long, 4, 0)] {
         let mut lent = filled(7);
         lent.deck = deck;
-        assert_eq!(load_of(&mut lent), REFUSED);
-        assert_eq!(lent.answer, answer);
+        assert_eq!(load_of(&mut lent), number);
+        assert_eq!(lent.answer, [number, line, 0, 0]);
         assert!(lent.tables.iter().flatten().all(|cell| *cell == 0));
     }
 }
@@ -207,7 +224,7 @@ fn calls_on_tables_of_wrong_sizes() {
             for size in wrong_sizes(loaded().tables[table].len()) {
                 let mut lent = loaded();
                 lent.tables[table].resize(size, 0);
-                refuses(name, call, lent, [0, 0, 0]);
+                refuses(name, call, lent, [0; 4]);
             }
         }
     }
@@ -216,16 +233,16 @@ fn calls_on_tables_of_wrong_sizes() {
 #[test]
 fn calls_on_tables_of_any_numbers() {
     for (name, call) in ON_LOADED {
-        refuses(name, call, filled(0), [0, 0, 0]);
-        refuses(name, call, filled(1), [0, 0, 0]);
-        refuses(name, call, filled(u64::MAX), [0, 0, 0]);
+        refuses(name, call, filled(0), [0; 4]);
+        refuses(name, call, filled(1), [0; 4]);
+        refuses(name, call, filled(u64::MAX), [0; 4]);
         for table in 0..4 {
             let mut lent = loaded();
             lent.tables[table][0] = u64::MAX;
-            refuses(name, call, lent, [0, 0, 0]);
+            refuses(name, call, lent, [0; 4]);
             let mut lent = loaded();
             *lent.tables[table].last_mut().unwrap() = 1;
-            refuses(name, call, lent, [0, 0, 0]);
+            refuses(name, call, lent, [0; 4]);
         }
     }
 }
@@ -237,7 +254,7 @@ fn calls_with_decks_of_other_lengths() {
         for length in [0, 1, 70] {
             let mut lent = loaded();
             lent.deck.truncate(length);
-            refuses(name, call, lent, [0, 0, 0]);
+            refuses(name, call, lent, [0; 4]);
         }
         let mut right = loaded();
         assert_eq!(call(&mut right), ACCEPTED);
@@ -249,40 +266,68 @@ fn calls_with_decks_of_other_lengths() {
     }
 }
 
+/// Such an answer is a lent table of a wrong size: refused, and only a load writes.
 #[test]
 fn answers_of_wrong_sizes() {
-    let load: (&str, Call) = ("load", load_of);
-    for (name, call) in ON_LOADED.into_iter().chain([load]) {
-        for size in [0, 1, 2, 4, 1000] {
-            let mut lent = if name == "load" { filled(7) } else { loaded() };
+    for size in [0, 1, 2, 3, 5, 1000] {
+        for (name, call) in ON_LOADED {
+            let mut lent = loaded();
             lent.answer.resize(size, 9);
             let before = lent.clone();
-            assert_eq!(call(&mut lent), NOT_MADE, "{name}, {size}");
+            assert_eq!(call(&mut lent), TABLES, "{name}, {size}");
             assert!(lent == before, "{name}, {size}");
         }
+        let mut lent = filled(7);
+        lent.answer.resize(size, 9);
+        assert_eq!(load_of(&mut lent), TABLES, "{size}");
+        let written = lent.tables.iter().flatten().chain(&lent.answer);
+        assert!(written.into_iter().all(|cell| *cell == 0), "{size}");
+        assert_eq!(lent.answer.len(), size);
     }
 }
 
 #[test]
 fn largest_numbers() {
     let most = u64::MAX;
-    refuses("merge", |l| merge_of(l, most), loaded(), [5, 0, 0]);
-    refuses("rollback", |l| rollback_to(l, most), loaded(), [14, 0, 0]);
-    refuses("element", |l| range_of(l, most, 3, 2), loaded(), [11, 0, 0]);
-    refuses("name", |l| range_of(l, 0, most, 2), loaded(), [7, 0, most]);
-    refuses("version", |l| range_of(l, 0, 3, most), loaded(), [11, 0, 0]);
+    refuses("merge", |l| merge_of(l, most), loaded(), [5, 0, 0, 0]);
+    refuses(
+        "rollback",
+        |l| rollback_to(l, most),
+        loaded(),
+        [14, 0, 0, 0],
+    );
+    refuses(
+        "element",
+        |l| range_of(l, most, 3, 2),
+        loaded(),
+        [11, 0, 0, 0],
+    );
+    refuses(
+        "name",
+        |l| range_of(l, 0, most, 2),
+        loaded(),
+        [7, 0, most, 0],
+    );
+    refuses(
+        "version",
+        |l| range_of(l, 0, 3, most),
+        loaded(),
+        [11, 0, 0, 0],
+    );
     refuses(
         "range",
         |l| range_of(l, most, most, most),
         loaded(),
-        [11, 0, 0],
+        [11, 0, 0, 0],
     );
 
-    let mut lent = loaded();
-    let mut expected = lent.clone();
-    expected.answer = vec![0, 0, 0];
-    assert_eq!(print_model_from(&mut lent, usize::MAX), ACCEPTED);
-    assert!(lent == expected);
+    for (print, _) in PRINTED {
+        let mut lent = loaded();
+        let mut expected = lent.clone();
+        expected.answer = vec![0; 4];
+        assert_eq!(print_from(print, &mut lent, usize::MAX), ACCEPTED);
+        assert!(lent == expected);
+    }
     let mut out = [9; 100];
     assert_eq!(print_output(DECK, usize::MAX, &mut out), 0);
     assert_eq!(print_calls(DECK, CALLS, usize::MAX, &mut out), 0);
@@ -307,14 +352,16 @@ fn prints_in_parts(text: &[u8], print: impl Fn(usize, &mut [u8]) -> usize) {
 #[test]
 fn printing_in_parts() {
     let lent = loaded();
-    prints_in_parts(MODEL, |from, out| {
-        let mut lent = lent.clone();
-        lent.out = out.to_vec();
-        assert_eq!(print_model_from(&mut lent, from), ACCEPTED);
-        out.copy_from_slice(&lent.out);
-        assert_eq!(lent.answer[1..], [0, 0]);
-        lent.answer[0] as usize
-    });
+    for (print, text) in PRINTED {
+        prints_in_parts(text, |from, out| {
+            let mut lent = lent.clone();
+            lent.out = out.to_vec();
+            assert_eq!(print_from(print, &mut lent, from), ACCEPTED);
+            out.copy_from_slice(&lent.out);
+            assert_eq!(lent.answer[1..], [0; 3]);
+            lent.answer[0] as usize
+        });
+    }
     prints_in_parts(OUTPUT, |from, out| print_output(DECK, from, out));
     prints_in_parts(CALLS_OUTPUT, |from, out| {
         print_calls(DECK, CALLS, from, out)
@@ -334,7 +381,7 @@ fn null_slices() {
 
     let mut lent = filled(7);
     let [schema, elements, model, log] = &mut lent.tables;
-    let mut answer = [9; 3];
+    let mut answer = [9; 4];
     // SAFETY: each pointer and length are those of a slice, null ones of length 0; those that are written are apart.
     let code = unsafe {
         zapelaritz_load(
@@ -349,14 +396,14 @@ fn null_slices() {
             log.as_mut_ptr(),
             log.len(),
             answer.as_mut_ptr(),
-            3,
+            4,
         )
     };
-    assert_eq!((code, answer), (REFUSED, [3, 0, 0]));
+    assert_eq!((code, answer), (3, [3, 0, 0, 0]));
     assert!(lent.tables.iter().flatten().all(|cell| *cell == 0));
 
     // SAFETY: as above.
-    let calls: [&dyn Fn(*mut u64, usize) -> u64; 6] = unsafe {
+    let calls: [&dyn Fn(*mut u64, usize) -> u64; 8] = unsafe {
         [
             &|answer, size| {
                 zapelaritz_load(
@@ -393,13 +440,25 @@ fn null_slices() {
                     no_out, 0, answer, size,
                 )
             },
+            &|answer, size| {
+                zapelaritz_print_trees(
+                    no_bytes, 0, no_numbers, 0, no_numbers, 0, no_numbers, 0, no_numbers, 0, 0,
+                    no_out, 0, answer, size,
+                )
+            },
+            &|answer, size| {
+                zapelaritz_print_log(
+                    no_bytes, 0, no_numbers, 0, no_numbers, 0, no_numbers, 0, no_numbers, 0, 0,
+                    no_out, 0, answer, size,
+                )
+            },
         ]
     };
     for call in calls {
-        let mut answer = [9; 3];
-        assert_eq!(call(answer.as_mut_ptr(), 3), REFUSED);
-        assert_eq!(answer, [0, 0, 0]);
-        assert_eq!(call(no_table, 0), NOT_MADE);
+        let mut answer = [9; 4];
+        assert_eq!(call(answer.as_mut_ptr(), 4), TABLES);
+        assert_eq!(answer, [0; 4]);
+        assert_eq!(call(no_table, 0), TABLES);
     }
 
     let mut out = [9; 10];
