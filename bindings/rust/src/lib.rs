@@ -50,6 +50,59 @@
 //! # Ok::<(), Box<dyn std::error::Error>>(())
 //! ```
 //!
+//! # Where to find what
+//!
+//! - [`Model`]: a loaded deck. [`merge`](Model::merge), [`mark`](Model::mark), [`rollback`](Model::rollback),
+//!   [`range`](Model::range); what the program prints; the log and the [merges that stand](Model::standing_merges).
+//! - [`Element`]: name, item name, path, files, content, and [what may be added](Element::palette) to it.
+//! - [`Schema`]: types, groups and rows.
+//! - [`DeckBuilder`]: writes decks.
+//! - [`ElementId`], [`Name`], [`TypeId`], [`FileId`], [`Version`], [`Mark`]: a type for each kind of number. One that is
+//!   taken for another does not compile.
+//! - [`LoadError`], [`Refusal`]: why a deck was not loaded, and why a call was refused.
+//!
+//! # For users of autosar-data
+//!
+//! The merge is a port of `AutosarModel::merge_file_data` of autosar-data 0.23.0. What this package has in common with that
+//! crate is named alike where it means the same:
+//!
+//! | autosar-data 0.23.0 | here |
+//! |---|---|
+//! | `AutosarModel::load_buffer`, `load_file`: parse ARXML, and merge it into what is loaded | [`Model::load`] reads a deck with model and deliveries; [`Model::merge`] merges one of them |
+//! | the error of such a merge, `InvalidFileMerge` with a path | [`Refusal`], with a number, and with an element and a name where it has them |
+//! | after a failed merge, `remove_from_file` is called | a refused merge changes nothing |
+//! | `AutosarModel::remove_file`, for any file: removes what is in that file alone | [`Model::rollback`], for the latest merges: all stands as it did before them |
+//! | the undo log of a merge, which is private and ends with it | [`Model::log`], [`Model::standing_merges`], [`Model::mark`] |
+//! | `AutosarModel::duplicate` | `Clone` |
+//! | `AutosarModel::files`, `ArxmlFile::version` | [`Model::files`], [`Model::version_of`] |
+//! | `AutosarModel::root_element` | [`Model::root`] |
+//! | `AutosarModel::get_element_by_path`: identifiable elements, by a hash table | [`Model::element_at`]: any element, by a walk |
+//! | `elements_dfs` of model and element, with the depth | [`Model::elements`], [`Element::subtree`], [`Element::depth`] |
+//! | `Element::element_name`, an `ElementName` | [`Element::name`], a number |
+//! | `Element::element_type` | [`Element::element_type`], [`Element::type_id`] |
+//! | `Element::is_identifiable`, `item_name` | [`Element::is_identifiable`], [`Element::item_name`] |
+//! | `Element::path`: of an identifiable element, item names alone | [`Element::item_name`] over [`Element::ancestors`] |
+//! | `Element::xml_path`: item names, and `<ELEMENT-NAME>` where there is none | [`Element::path`]: item names, and `<4>` for name 4; the root is left out |
+//! | `Element::parent`, `named_parent` | [`Element::parent`], [`Element::ancestors`] |
+//! | `Element::file_membership`: the set, and whether it is stored in this element | [`Element::effective_files`], [`Element::own_files`] |
+//! | `Element::min_version` | [`Element::min_version`] |
+//! | `Element::content`, `content_item_count` | [`Element::items`] and its `len` |
+//! | `Element::sub_elements`, `get_sub_element`, `get_sub_element_at` | [`Element::sub_elements`], [`Element::sub_element`], [`Element::item_at`] |
+//! | `Element::position` | [`Element::position`] |
+//! | `Element::character_data`, a `CharacterData` of four kinds | [`Element::text`], a [`Text`] of four kinds |
+//! | `Element::list_valid_sub_elements`: the names of the least version, each with whether it may be inserted | [`Element::allowed_names`] of a version; [`Element::palette`]: each row with the places, or with the refusal |
+//! | `Element::calc_element_insert_range` | [`Element::range`], [`Model::range`] |
+//! | `AutosarModel::serialize_files`, `Element::serialize`: XML | [`Model::model_lines`]; [`DeckBuilder`] from a model |
+//!
+//! These have no counterpart here: reading and writing XML; attributes and comments; references (`get_reference_target`,
+//! `get_references_to`, `check_references`); edits (`create_sub_element`, `move_element_here`, `remove_sub_element`,
+//! `set_character_data`, `set_item_name`, `add_to_file`, `sort`); `check_version_compatibility`; files that are created. A
+//! model changes by merges and rollbacks alone. A deck has limits, which `docs/DECK.md` lists.
+//!
+//! These have no counterpart there: the three counts of a merge, marks, and a log that outlives the merge.
+//!
+//! # Stack
+//!
 //! Every call runs on the caller's stack. As measured on trees of the largest depth, a merge takes up to 1,100,000 bytes of
 //! it, [`output`] and [`calls_output`] up to 1,290,000. The 2 MiB of a thread that Rust starts are enough.
 

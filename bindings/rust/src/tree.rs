@@ -155,6 +155,21 @@ impl<'a> Element<'a> {
         sets.find(|set| !set.is_empty()).unwrap_or_default()
     }
 
+    /// The least version among the [files that it is in](Element::effective_files).
+    ///
+    /// ```
+    /// use zapelaritz::{Model, Version};
+    ///
+    /// let model = Model::load("T,0,0,0,0\nF,0,5\nF,1,3\nM\nE,0,0,3\n")?;
+    /// assert_eq!(model.root().min_version(), Some(Version(3)));
+    /// # Ok::<(), zapelaritz::LoadError>(())
+    /// ```
+    pub fn min_version(self) -> Option<Version> {
+        let files = self.effective_files();
+        let versions = files.iter().filter_map(|file| self.model.version_of(file));
+        versions.min()
+    }
+
     /// The element that it belongs to; none for a root. An imported element belongs to its parent in the model.
     ///
     /// ```
@@ -235,7 +250,8 @@ impl<'a> Element<'a> {
     /// # Ok::<(), zapelaritz::LoadError>(())
     /// ```
     pub fn item_at(self, place: usize) -> Option<Item<'a>> {
-        self.items().nth(place)
+        let place = self.places().nth(place)?;
+        Some(Item::read(self.model, place))
     }
 
     /// The elements of its content, in order.

@@ -2,30 +2,30 @@
 
 mod common;
 
-use common::{check_reading, load, loadable, merge, sum, waiting_files};
-use zapelaritz::{Model, Refusal};
+use common::{check_reading, load, loadable, merge, waiting_files};
+use zapelaritz::{ElementId, FileId, Mark, Model, Name, Refusal};
 
 /// Counts by hand: file 1's `brakes` is imported, `engine` restricted, the root extended; file 2's value and `lights` are
 /// imported, `doors` restricted (it has no set), `engine` and the root extended.
 #[test]
 fn merged_marked_withdrawn_and_merged_again() {
     let mut model = load("merge/named.deck");
-    assert_eq!(model.mark(), 0);
+    assert_eq!(model.mark(), Mark(0));
     assert_eq!(merge(&mut model, 1), Ok([1, 1, 1]));
     let mark = model.mark();
-    assert_eq!(mark, 3);
+    assert_eq!(mark, Mark(3));
     let at_mark = model.clone();
 
     assert_eq!(merge(&mut model, 2), Ok([2, 1, 2]));
-    assert_eq!(model.mark(), 8);
+    assert_eq!(model.mark(), Mark(8));
     assert_eq!(model.rollback(mark), Ok(5));
     assert_eq!(model, at_mark);
     assert_eq!(model.model_lines(), at_mark.model_lines());
-    assert_eq!(waiting_files(&model), [2]);
+    assert_eq!(waiting_files(&model), [FileId(2)]);
 
     assert_eq!(merge(&mut model, 2), Ok([2, 1, 2]));
-    assert_eq!(model.rollback(0), Ok(8));
-    assert_eq!(waiting_files(&model), [1, 2]);
+    assert_eq!(model.rollback(Mark(0)), Ok(8));
+    assert_eq!(waiting_files(&model), [1, 2].map(FileId));
     // Alone, file 2 restricts `doors` and imports as before; `engine` has no set that could be extended.
     assert_eq!(merge(&mut model, 2), Ok([2, 1, 1]));
 }
@@ -38,16 +38,18 @@ fn refused_between() {
     let before = model.clone();
     assert_eq!(
         merge(&mut model, 2),
-        Err(Refusal::Unmergeable { element: 0 })
+        Err(Refusal::Unmergeable {
+            element: ElementId(0)
+        })
     );
     assert_eq!(model, before);
     assert_eq!(merge(&mut model, 3), Ok([1, 0, 2]));
     for no_mark in [1, 3, 4, 6, u64::MAX] {
-        assert_eq!(model.rollback(no_mark), Err(Refusal::NoMark));
+        assert_eq!(model.rollback(Mark(no_mark)), Err(Refusal::NoMark));
     }
-    assert_eq!(model.rollback(2), Ok(3));
+    assert_eq!(model.rollback(Mark(2)), Ok(3));
     assert_eq!(model, before);
-    assert_eq!(model.rollback(0), Ok(2));
+    assert_eq!(model.rollback(Mark(0)), Ok(2));
 }
 
 /// Refusals of a merge, each with what it carries; the state is the same after it.
@@ -62,29 +64,33 @@ fn refused_merges_change_nothing() {
             "merge/refusal_6.deck",
             &[],
             1,
-            Refusal::Unmergeable { element: 0 },
+            Refusal::Unmergeable {
+                element: ElementId(0),
+            },
         ),
         (
             "merge/refusal_7.deck",
             &[],
             1,
             Refusal::NotInVersion {
-                element: 0,
-                name: 3,
+                element: ElementId(0),
+                name: Name(3),
             },
         ),
         (
             "merge/refusal_8.deck",
             &[],
             1,
-            Refusal::UsedTwice { element: 6 },
+            Refusal::UsedTwice {
+                element: ElementId(6),
+            },
         ),
         ("calls/refusal_9.deck", &[1, 2, 3], 4, Refusal::LogFull),
         ("calls/refusal_10.deck", &[], 1, Refusal::ContentFull),
     ] {
         let mut model = load(name);
         for file in first {
-            model.merge(*file).unwrap();
+            model.merge(FileId(*file)).unwrap();
         }
         let before = model.clone();
         assert_eq!(merge(&mut model, file), Err(refusal), "{name}");
@@ -103,7 +109,7 @@ fn history(name: &str, mut model: Model) -> Vec<(u64, Model)> {
         let before = model.clone();
         match model.merge(file) {
             Ok(counts) => {
-                length += sum(counts);
+                length += counts.total();
                 past.push((length, model.clone()));
             }
             Err(_) => assert!(model == before, "{name}, file {file}"),
@@ -122,9 +128,10 @@ fn every_mark_brings_back() {
         let past = history(&name, model);
         let (length, last) = &past[past.len() - 1];
         for (mark, then) in &past {
-            assert_eq!(then.mark(), *mark, "{name}");
+            assert_eq!(then.mark(), Mark(*mark), "{name}");
             let mut model = last.clone();
-            assert_eq!(model.rollback(*mark), Ok(length - mark), "{name}");
+            let entries = model.rollback(Mark(*mark));
+            assert_eq!(entries, Ok(length - mark), "{name}");
             assert!(model == *then, "{name}, mark {mark}");
             check_reading(&name, &model);
             withdrawn += usize::from(mark < length);
@@ -142,7 +149,8 @@ fn every_other_number_is_no_mark() {
         let mut model = last.clone();
         for mark in (0..=length + 2).chain([u64::MAX]) {
             if past.iter().all(|(end, _)| *end != mark) {
-                assert_eq!(model.rollback(mark), Err(Refusal::NoMark), "{name}, {mark}");
+                let answer = model.rollback(Mark(mark));
+                assert_eq!(answer, Err(Refusal::NoMark), "{name}, {mark}");
             }
         }
         assert!(model == *last, "{name}");
@@ -156,20 +164,20 @@ fn a_long_list_of_calls() {
     let loaded = model.clone();
     let mut book: Vec<u64> = Vec::new();
     for step in 0..300_u64 {
-        let file = step * 7 % 5;
+        let file = FileId(step * 7 % 5);
         if let Ok(counts) = model.merge(file) {
-            book.push(sum(counts));
+            book.push(counts.total());
         }
         if step % 4 == 3 {
             let stay = (step / 4) as usize % (book.len() + 1);
             let mark = book[..stay].iter().sum();
             let since: u64 = book.split_off(stay).iter().sum();
-            assert_eq!(model.rollback(mark), Ok(since));
+            assert_eq!(model.rollback(Mark(mark)), Ok(since));
         }
-        assert_eq!(model.mark(), book.iter().sum::<u64>());
+        assert_eq!(model.mark(), Mark(book.iter().sum()));
         check_reading("list", &model);
     }
-    assert_eq!(model.rollback(0), Ok(book.iter().sum()));
+    assert_eq!(model.rollback(Mark(0)), Ok(book.iter().sum()));
     assert_eq!(model, loaded);
 }
 
@@ -178,8 +186,8 @@ fn a_long_list_of_calls() {
 fn clones_are_apart() {
     let loaded = load("merge/printed.deck");
     let mut model = loaded.clone();
-    model.merge(1).unwrap();
+    model.merge(FileId(1)).unwrap();
     assert_ne!(model, loaded);
-    assert_eq!(loaded.mark(), 0);
-    assert_eq!(waiting_files(&loaded), [1]);
+    assert_eq!(loaded.mark(), Mark::START);
+    assert_eq!(waiting_files(&loaded), [FileId(1)]);
 }

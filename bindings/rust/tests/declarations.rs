@@ -16,7 +16,7 @@ struct Signature {
 
 type Functions = BTreeMap<String, Signature>;
 
-const NAMES: [&str; 14] = [
+const NAMES: [&str; 17] = [
     "zapelaritz_answer_size",
     "zapelaritz_deck_limit",
     "zapelaritz_elements_size",
@@ -26,11 +26,14 @@ const NAMES: [&str; 14] = [
     "zapelaritz_merge",
     "zapelaritz_model_size",
     "zapelaritz_print_calls",
+    "zapelaritz_print_log",
     "zapelaritz_print_model",
     "zapelaritz_print_output",
+    "zapelaritz_print_trees",
     "zapelaritz_range",
     "zapelaritz_rollback",
     "zapelaritz_schema_size",
+    "zapelaritz_version",
 ];
 
 fn text(path: &str) -> String {
@@ -233,16 +236,24 @@ fn no_function_requires() {
     }
 }
 
-/// The results of the calls, by the source.
+/// What calls return and how long an answer is, by the source.
 #[test]
 fn codes() {
-    let numbers = rattle_files().concat();
+    let source = rattle_files().concat();
     let rust = text("bindings/rust/src/ffi.rs");
-    let header = header_text();
-    for (name, number) in [("ACCEPTED", 0), ("REFUSED", 1), ("NOT_MADE", 2)] {
-        let constant = format!("const {name}: u64 = {number};");
-        assert!(numbers.contains(&constant), "{name}");
-        assert!(rust.contains(&constant), "{name}");
-        assert!(header.contains(&format!("{name} = {number}")), "{name}");
+    let header = text("include/zapelaritz.h");
+    let accepted = "const ACCEPTED: u64 = 255;";
+    let size = "const ANSWER_SIZE: usize = 4;";
+    for constant in [accepted, size] {
+        assert!(source.contains(constant), "{constant}");
+        assert!(rust.contains(constant), "{constant}");
+    }
+    assert!(source.contains("const VERSION: u64 = 200;"));
+    for constant in [
+        "ZAPELARITZ_ACCEPTED = 255",
+        "#define ZAPELARITZ_ANSWER_SIZE 4",
+        "#define ZAPELARITZ_VERSION 200",
+    ] {
+        assert!(header.contains(constant), "{constant}");
     }
 }

@@ -4,22 +4,24 @@
 mod common;
 
 use std::collections::HashMap;
+use std::fmt::Write;
 use std::fs;
-use std::io::Write;
 use std::thread::Builder;
 
-use common::{cases, check_reading, data, loadable, repository, tree_lines, waiting_files};
-use zapelaritz::{calls_output, output, Entry, Model, Refusal};
+use common::{
+    all_lines, cases, check_reading, data, loadable, log_lines, repository, waiting_files,
+};
+use zapelaritz::{
+    calls_output, output, ElementId, FileId, Mark, Model, Name, Refusal, TypeId, Version,
+};
 
 /// Holds what `print` gives for each case to its answer. A case without a list of calls has each delivery merged.
-fn hold_to_the_answers(print: impl Fn(&[u8], Option<&[u8]>) -> Vec<u8>) {
+fn hold_to_the_answers(print: impl Fn(&[u8], Option<&[u8]>) -> String) {
     for (case, deck) in cases() {
         let calls = fs::read(repository(&format!("crates/decks/data/{case}.calls"))).ok();
         let printed = print(&data(&format!("{deck}.deck")), calls.as_deref());
-        let expected = data(&format!("{case}.out"));
+        let expected = String::from_utf8(data(&format!("{case}.out"))).unwrap();
         if printed != expected {
-            let [printed, expected] =
-                [printed, expected].map(|text| String::from_utf8_lossy(&text).into_owned());
             panic!("{case}: got\n{printed}\nwhere the answer is\n{expected}");
         }
     }
@@ -38,10 +40,10 @@ fn calls_on_a_model_are_the_answers() {
     hold_to_the_answers(|deck, calls| {
         let mut model = match Model::load(deck) {
             Ok(model) => model,
-            Err(error) => return format!("deck,{},{}\n", error.number(), error.line()).into(),
+            Err(error) => return format!("deck,{},{}\n", error.number(), error.line()),
         };
         check_reading("loaded", &model);
-        let mut out = Vec::new();
+        let mut out = String::new();
         match calls {
             None => {
                 for file in waiting_files(&model) {
@@ -56,16 +58,16 @@ fn calls_on_a_model_are_the_answers() {
 }
 
 enum Call {
-    Merge(u64),
-    Rollback(u64),
-    Range(u64, u64, u64),
+    Merge(FileId),
+    Rollback(Mark),
+    Range(ElementId, Name, Version),
     Model,
     Trees,
     Log,
 }
 
 /// A line of another form ends the run; so do bytes behind the last LF.
-fn answer_lines(model: &mut Model, calls: &[u8], out: &mut Vec<u8>) {
+fn answer_lines(model: &mut Model, calls: &[u8], out: &mut String) {
     for (number, line) in calls.split_inclusive(|byte| *byte == b'\n').enumerate() {
         match line.strip_suffix(b"\n").and_then(read_call) {
             Some(call) => answer(model, call, out),
@@ -77,11 +79,13 @@ fn answer_lines(model: &mut Model, calls: &[u8], out: &mut Vec<u8>) {
 fn read_call(line: &[u8]) -> Option<Call> {
     let fields: Vec<&[u8]> = line.split(|byte| *byte == b',').collect();
     let call = match *fields.as_slice() {
-        [b"merge", file] => Call::Merge(number(file)?),
-        [b"rollback", mark] => Call::Rollback(number(mark)?),
-        [b"range", element, name, version] => {
-            Call::Range(number(element)?, number(name)?, number(version)?)
-        }
+        [b"merge", file] => Call::Merge(FileId(number(file)?)),
+        [b"rollback", mark] => Call::Rollback(Mark(number(mark)?)),
+        [b"range", element, name, version] => Call::Range(
+            ElementId(number(element)?),
+            Name(number(name)?),
+            Version(number(version)?),
+        ),
         [b"model"] => Call::Model,
         [b"trees"] => Call::Trees,
         [b"log"] => Call::Log,
@@ -99,7 +103,7 @@ fn number(field: &[u8]) -> Option<u64> {
     std::str::from_utf8(field).ok()?.parse().ok()
 }
 
-fn answer(model: &mut Model, call: Call, out: &mut Vec<u8>) {
+fn answer(model: &mut Model, call: Call, out: &mut String) {
     match call {
         Call::Merge(file) => {
             match model.merge(file) {
@@ -135,21 +139,9 @@ fn answer(model: &mut Model, call: Call, out: &mut Vec<u8>) {
             )
             .unwrap(),
         },
-        Call::Model => out.extend(model.model_lines()),
-        Call::Trees => {
-            out.extend(b"M\n");
-            out.extend(tree_lines(model.root()));
-            for tree in model.waiting() {
-                writeln!(out, "B,{}", tree.file).unwrap();
-                out.extend(tree_lines(tree.root));
-            }
-        }
-        Call::Log => {
-            writeln!(out, "log,{}", model.log().len()).unwrap();
-            for entry in model.log() {
-                writeln!(out, "{}", entry_line(entry)).unwrap();
-            }
-        }
+        Call::Model => out.push_str(&model.model_lines()),
+        Call::Trees => out.push_str(&all_lines(model)),
+        Call::Log => out.push_str(&log_lines(model)),
     }
 }
 
@@ -159,23 +151,7 @@ fn fields(refusal: Refusal) -> String {
     format!("{},{element},{name}", refusal.number())
 }
 
-fn entry_line(entry: Entry) -> String {
-    match entry {
-        Entry::Import {
-            element,
-            parent,
-            old_parent,
-            old_files,
-        } => format!(
-            "import,{element},{parent},{},{old_files:x}",
-            or_dash(old_parent)
-        ),
-        Entry::Restriction { element, old_files } => format!("restriction,{element},{old_files:x}"),
-        Entry::Extension { element, file } => format!("extension,{element},{file}"),
-    }
-}
-
-fn or_dash(number: Option<u64>) -> String {
+fn or_dash(number: Option<impl ToString>) -> String {
     number.map_or("-".into(), |number| number.to_string())
 }
 
@@ -196,8 +172,8 @@ fn every_deck_is_read_as_it_is_printed() {
 #[test]
 fn a_long_output() {
     let deck = data("merge/printed.deck");
-    let model = b"E,0,0,1\nE,1,3,0\nC,2,s,p\n";
-    let printed = calls_output(&deck, &b"model\n".repeat(20_000));
+    let model = "E,0,0,1\nE,1,3,0\nC,2,s,p\n";
+    let printed = calls_output(deck, "model\n".repeat(20_000));
     assert!(printed == model.repeat(20_000));
 }
 
@@ -211,8 +187,8 @@ fn deep_trees_on_a_thread() {
             "calls/depth_31_conflict.deck",
             "calls/depth_31_fallback.deck",
         ] {
-            assert_ne!(output(&data(name)), b"");
-            assert_ne!(calls_output(&data(name), b"merge,1\n"), b"");
+            assert_ne!(output(data(name)), "");
+            assert_ne!(calls_output(data(name), "merge,1\n"), "");
         }
     };
     thread.spawn(run).unwrap().join().unwrap();
@@ -233,7 +209,7 @@ fn files_are_those_of_the_f_lines() {
         let expected: Vec<&str> = deck.lines().filter(|line| line.starts_with('F')).collect();
         let files: Vec<String> = model
             .files()
-            .map(|file| format!("F,{},{}", file.number, file.version))
+            .map(|file| format!("F,{},{}", file.id, file.version))
             .collect();
         assert_eq!(files, expected, "{deck}");
     }
@@ -247,15 +223,16 @@ fn types_are_those_of_the_s_lines() {
         for line in deck.lines().filter(|line| line.starts_with('S')) {
             let fields: Vec<&str> = line.split(',').collect();
             let [parent, name, child] = [1, 3, 4].map(|field| fields[field].parse::<u64>());
-            types.insert((parent.unwrap(), name.unwrap()), child.unwrap());
+            let key = (TypeId(parent.unwrap()), Name(name.unwrap()));
+            types.insert(key, TypeId(child.unwrap()));
         }
         let roots = model.waiting().map(|tree| tree.root).chain([model.root()]);
         for root in roots {
-            assert_eq!(root.type_number(), 0, "{deck}");
+            assert_eq!(root.type_id(), TypeId::ROOT, "{deck}");
             for element in root.subtree() {
                 for child in element.sub_elements() {
-                    let expected = types[&(element.type_number(), child.name())];
-                    assert_eq!(child.type_number(), expected, "{deck}");
+                    let expected = types[&(element.type_id(), child.name())];
+                    assert_eq!(child.type_id(), expected, "{deck}");
                 }
             }
         }

@@ -4,111 +4,136 @@
 mod common;
 
 use common::{load, merge};
-use zapelaritz::{Entry, File, Item, LoadError, Model, Places, Refusal, Text};
+use zapelaritz::{
+    Element, ElementId, Entry, File, FileId, Item, LoadError, Mark, Model, Name, Places, Refusal,
+    Text, Version,
+};
 
-const EXAMPLE: &[u8] = b"E,0,0,3\nE,1,3,1\nC,2,s,p\nE,1,3,2\nC,2,s,q\nE,1,4,2\nC,2,u,7\n";
+const EXAMPLE: &str = "E,0,0,3\nE,1,3,1\nC,2,s,p\nE,1,3,2\nC,2,s,q\nE,1,4,2\nC,2,u,7\n";
 
 #[test]
 fn the_example() {
     let mut model = load("merge/printed.deck");
     assert_eq!(merge(&mut model, 1), Ok([2, 1, 1]));
     assert_eq!(model.model_lines(), EXAMPLE);
-    let output = [b"merged,1,2,1,1\n", EXAMPLE].concat();
-    assert_eq!(
-        zapelaritz::output(&common::data("merge/printed.deck")),
-        output
-    );
+    let output = ["merged,1,2,1,1\n", EXAMPLE].concat();
+    let deck = common::data("merge/printed.deck");
+    assert_eq!(zapelaritz::output(deck), output);
+}
+
+fn numbers<'a>(elements: impl Iterator<Item = Element<'a>>) -> Vec<u64> {
+    elements.map(|element| element.id().get()).collect()
 }
 
 /// Elements in the order of the deck: the model's root 0 with 1, the delivery's root 2 with 3 and 4.
 #[test]
 fn the_example_read() {
     let mut model = load("merge/printed.deck");
-    let numbers: Vec<u64> = model.elements().map(|element| element.number()).collect();
-    assert_eq!(numbers, [0, 1]);
+    assert_eq!(numbers(model.elements()), [0, 1]);
     let tree = model.waiting().next().unwrap();
-    assert_eq!((tree.file, tree.root.number()), (1, 2));
-    let delivered: Vec<u64> = tree.root.subtree().map(|e| e.number()).collect();
-    assert_eq!(delivered, [2, 3, 4]);
-    assert_eq!(model.element(3).unwrap().parent(), model.element(2));
+    assert_eq!((tree.file, tree.root.id()), (FileId(1), ElementId(2)));
+    assert_eq!(numbers(tree.root.subtree()), [2, 3, 4]);
+    let [root, child] = [2, 3].map(|number| model.element(ElementId(number)));
+    assert_eq!(child.unwrap().parent(), root);
     assert_eq!(model.log().len(), 0);
 
-    model.merge(1).unwrap();
+    model.merge(FileId(1)).unwrap();
     let rows: Vec<_> = model
         .elements()
-        .map(|e| (e.number(), e.name(), e.depth(), e.type_number(), e.files()))
-        .map(|(number, name, depth, kind, files)| [number, name, depth, kind, files.bits()])
+        .map(|e| {
+            (
+                e.id().0,
+                e.name().0,
+                e.depth(),
+                e.type_id().0,
+                e.own_files(),
+            )
+        })
+        .map(|(id, name, depth, of_type, files)| (id, name, depth, of_type, files.bits()))
         .collect();
     let expected = [
-        [0, 0, 0, 0, 3],
-        [1, 3, 1, 1, 1],
-        [3, 3, 1, 1, 2],
-        [4, 4, 1, 1, 2],
+        (0, 0, 0, 0, 3),
+        (1, 3, 1, 1, 1),
+        (3, 3, 1, 1, 2),
+        (4, 4, 1, 1, 2),
     ];
     assert_eq!(rows, expected);
     let texts: Vec<_> = model.elements().flat_map(|e| e.texts()).collect();
     assert_eq!(
         texts,
-        [Text::String(b"p"), Text::String(b"q"), Text::Unsigned(7)]
+        [Text::String("p"), Text::String("q"), Text::Unsigned(7)]
     );
     let root = model.root();
-    assert!(root.files().iter().eq([0, 1]));
+    assert!(root.own_files().iter().eq([0, 1].map(FileId)));
     assert_eq!(root.items().len(), 3);
-    let last = model.element(4).unwrap();
+    let last = model.element(ElementId(4)).unwrap();
     assert_eq!(root.items().next_back(), Some(Item::Element(last)));
     assert_eq!(last.parent(), Some(root));
-    assert_eq!(model.element(5), None);
-    assert_eq!(model.element(u64::MAX), None);
+    assert_eq!(model.element(ElementId(5)), None);
+    assert_eq!(model.element(ElementId(u64::MAX)), None);
 
     // The waiting tree's list keeps what was imported.
     assert_eq!(model.waiting().count(), 0);
-    let kept = model.element(2).unwrap().sub_elements();
-    assert!(kept.map(|element| element.number()).eq([3, 4]));
+    let kept = model.element(ElementId(2)).unwrap().sub_elements();
+    assert_eq!(numbers(kept), [3, 4]);
 
     let import = |element| Entry::Import {
-        element,
-        parent: 0,
-        old_parent: Some(2),
+        element: ElementId(element),
+        parent: ElementId(0),
+        old_parent: Some(ElementId(2)),
         old_files: Default::default(),
     };
     let restriction = Entry::Restriction {
-        element: 1,
+        element: ElementId(1),
         old_files: Default::default(),
     };
     let extension = Entry::Extension {
-        element: 0,
-        file: 1,
+        element: ElementId(0),
+        file: FileId(1),
     };
     assert!(model
         .log()
         .eq([restriction, import(3), import(4), extension]));
-    let files = [(0, 2), (1, 3)].map(|(number, version)| File { number, version });
+    let files = [(0, 2), (1, 3)].map(file);
     assert!(model.files().eq(files));
+}
+
+fn file((id, version): (u64, u64)) -> File {
+    File {
+        id: FileId(id),
+        version: Version(version),
+    }
 }
 
 #[test]
 fn the_example_rolled_back() {
     let loaded = load("merge/printed.deck");
     let mut merged = loaded.clone();
-    merged.merge(1).unwrap();
+    merged.merge(FileId(1)).unwrap();
 
     let mut model = merged.clone();
-    assert_eq!(model.rollback(0), Ok(4));
-    assert_eq!(model.model_lines(), b"E,0,0,1\nE,1,3,0\nC,2,s,p\n");
+    assert_eq!(model.rollback(Mark(0)), Ok(4));
+    assert_eq!(model.model_lines(), "E,0,0,1\nE,1,3,0\nC,2,s,p\n");
     assert_eq!(model, loaded);
 
     let mut model = merged.clone();
-    assert_eq!(model.rollback(4), Ok(0));
-    assert_eq!(model.rollback(3), Err(Refusal::NoMark));
-    assert_eq!(model.rollback(5), Err(Refusal::NoMark));
+    assert_eq!(model.rollback(Mark(4)), Ok(0));
+    assert_eq!(model.rollback(Mark(3)), Err(Refusal::NoMark));
+    assert_eq!(model.rollback(Mark(5)), Err(Refusal::NoMark));
     assert_eq!(model.model_lines(), EXAMPLE);
     assert_eq!(model, merged);
+}
+
+fn range(model: &Model, element: u64, name: u64, version: u64) -> Result<Places, Refusal> {
+    model.range(ElementId(element), Name(name), Version(version))
 }
 
 #[test]
 fn ranges() {
     let places = |first, last| Ok(Places { first, last });
-    let none = Err(Refusal::NoPlace { element: 0 });
+    let none = Err(Refusal::NoPlace {
+        element: ElementId(0),
+    });
     for (name, expected) in [
         ("calls/range_sequence_mult_2.deck", places(1, 2)),
         ("calls/range_sequence_mult_0.deck", none),
@@ -116,7 +141,7 @@ fn ranges() {
         ("calls/range_choice_with_another_path.deck", none),
         ("calls/range_bag_of_3.deck", places(0, 3)),
     ] {
-        assert_eq!(load(name).range(0, 4, 2), expected, "{name}");
+        assert_eq!(range(&load(name), 0, 4, 2), expected, "{name}");
     }
 }
 
@@ -124,38 +149,50 @@ fn ranges() {
 #[test]
 fn refusals_of_range() {
     let model = load("merge/printed.deck");
-    assert_eq!(model.range(5, 3, 2), Err(Refusal::NoSuchElement));
-    assert_eq!(model.range(0, 3, 32), Err(Refusal::NoSuchElement));
-    let characters = Refusal::CharactersParent { element: 1 };
-    assert_eq!(model.range(1, 3, 2), Err(characters));
-    let unknown = Refusal::NotInVersion {
-        element: 0,
-        name: 9,
+    assert_eq!(range(&model, 5, 3, 2), Err(Refusal::NoSuchElement));
+    assert_eq!(range(&model, 0, 3, 32), Err(Refusal::NoSuchElement));
+    let characters = Refusal::CharactersParent {
+        element: ElementId(1),
     };
-    assert_eq!(model.range(0, 9, 2), Err(unknown));
+    assert_eq!(range(&model, 1, 3, 2), Err(characters));
+    let unknown = Refusal::NotInVersion {
+        element: ElementId(0),
+        name: Name(9),
+    };
+    assert_eq!(range(&model, 0, 9, 2), Err(unknown));
     // The delivered root, element 2, has its one name 4 already.
-    assert_eq!(model.range(2, 4, 3), Err(Refusal::NoPlace { element: 2 }));
+    assert_eq!(
+        range(&model, 2, 4, 3),
+        Err(Refusal::NoPlace {
+            element: ElementId(2)
+        })
+    );
 }
 
 #[test]
 fn merges() {
     let counts = |imports, restrictions, extensions| Ok([imports, restrictions, extensions]);
-    let unmergeable = |element| Err(Refusal::Unmergeable { element });
+    let unmergeable = |element| {
+        let element = ElementId(element);
+        Err(Refusal::Unmergeable { element })
+    };
     for (name, expected) in [
         ("merge/named_x_y_against_y_x.deck", counts(0, 0, 1)),
         ("merge/named_x_against_y.deck", unmergeable(0)),
         ("merge/named_x_against_y_splittable.deck", counts(1, 1, 1)),
         (
             "merge/definitions_d_d_against_e_d.deck",
-            Err(Refusal::UsedTwice { element: 8 }),
+            Err(Refusal::UsedTwice {
+                element: ElementId(8),
+            }),
         ),
         ("merge/choice_c1_against_c2_mult_2.deck", counts(1, 1, 1)),
         ("merge/choice_c1_against_c2_mult_0.deck", unmergeable(1)),
         (
             "merge/mask_4_new_version_3.deck",
             Err(Refusal::NotInVersion {
-                element: 0,
-                name: 3,
+                element: ElementId(0),
+                name: Name(3),
             }),
         ),
         ("merge/mask_4_new_version_2.deck", counts(1, 0, 1)),
@@ -181,14 +218,14 @@ fn models_where_both_are_kept() {
         ),
     ] {
         let mut model = load(name);
-        model.merge(1).unwrap();
-        assert_eq!(model.model_lines(), lines.as_bytes(), "{name}");
+        model.merge(FileId(1)).unwrap();
+        assert_eq!(model.model_lines(), lines, "{name}");
     }
 }
 
 #[test]
 fn refusals_of_load() {
-    let refused = |name: &str| Model::load(&common::data(name)).unwrap_err();
+    let refused = |name: &str| Model::load(common::data(name)).unwrap_err();
     assert_eq!(refused("load/refusal_1.deck"), LoadError::Form { line: 1 });
     assert_eq!(
         refused("load/refusal_2.deck"),
@@ -221,9 +258,9 @@ fn kinds_of_text() {
         [
             Text::Enum(0),
             Text::Enum(65535),
-            Text::String(b""),
-            Text::String(b" ~"),
-            Text::String(b"two words \"and\" dots..."),
+            Text::String(""),
+            Text::String(" ~"),
+            Text::String("two words \"and\" dots..."),
             Text::Unsigned(0),
             Text::Unsigned(10),
             Text::Unsigned(u64::MAX),
@@ -242,19 +279,20 @@ fn kinds_of_text() {
 #[test]
 fn files_and_sets() {
     let model = load("load/f_ascending_with_gaps.deck");
-    let files = [(0, 9), (7, 3), (63, 3)].map(|(number, version)| File { number, version });
+    let files = [(0, 9), (7, 3), (63, 3)].map(file);
     assert!(model.files().eq(files));
-    assert!(model.root().files().iter().eq([7]));
+    assert!(model.root().own_files().iter().eq([FileId(7)]));
 
     let mut model = load("merge/set_of_file_63.deck");
-    model.merge(63).unwrap();
-    assert!(model.root().files().iter().eq([0, 63]));
-    assert_eq!(format!("{:x}", model.root().files()), "8000000000000001");
+    model.merge(FileId(63)).unwrap();
+    let loaded = model.root().own_files();
+    assert!(loaded.iter().eq([0, 63].map(FileId)));
+    assert_eq!(format!("{loaded:x}"), "8000000000000001");
 
     let model = load("load/lines_three_trees.deck");
-    assert_eq!(common::waiting_files(&model), [63, 4, 9]);
-    let roots: Vec<u64> = model.waiting().map(|tree| tree.root.number()).collect();
-    assert_eq!(roots, [1, 3, 4]);
+    assert_eq!(common::waiting_files(&model), [63, 4, 9].map(FileId));
+    let roots = model.waiting().map(|tree| tree.root);
+    assert_eq!(numbers(roots), [1, 3, 4]);
 }
 
 #[test]
@@ -262,8 +300,8 @@ fn a_model_is_shown_short() {
     let model = load("merge/printed.deck");
     let shown = "Model { files: {0}, elements: 2, waiting: 1, log: 0, .. }";
     assert_eq!(format!("{model:?}"), shown);
-    let shown = "Element { number: 1, name: 3, depth: 1, files: {}, .. }";
-    assert_eq!(format!("{:?}", model.element(1).unwrap()), shown);
+    let shown = "Element { id: 1, name: 3, depth: 1, own_files: {}, .. }";
+    assert_eq!(format!("{:?}", model.element(ElementId(1)).unwrap()), shown);
 }
 
 #[test]
