@@ -3,7 +3,7 @@
 use std::fmt::Write;
 
 use crate::random::Random;
-use zapelaritz::{Counts, Entry, Item, Model, Refusal, Text};
+use zapelaritz::{Counts, ElementId, FileId, Item, Mark, Model, Name, Places, Refusal, Version};
 
 /// The refusals of a merge that are set aside: the original has no such.
 pub const SET_ASIDE: [u64; 4] = [5, 8, 9, 10];
@@ -21,26 +21,42 @@ impl Engine {
         }
     }
 
+    pub fn merge(&mut self, file: u64) -> Result<Counts, Refusal> {
+        self.model.merge(FileId(file))
+    }
+
+    pub fn rollback(&mut self, mark: u64) -> Result<u64, Refusal> {
+        self.model.rollback(Mark(mark))
+    }
+
+    pub fn range(&self, element: u64, name: u64, version: u64) -> Result<Places, Refusal> {
+        self.model.range(ElementId(element), Name(name), Version(version))
+    }
+
+    pub fn mark(&self) -> u64 {
+        self.model.mark().get()
+    }
+
     pub fn waiting(&self) -> Vec<u64> {
-        self.model.waiting().map(|tree| tree.file).collect()
+        self.model.waiting().map(|tree| tree.file.get()).collect()
     }
 
     pub fn element_count(&self) -> u64 {
-        (0..).take_while(|number| self.model.element(*number).is_some()).count() as u64
+        (0..).take_while(|number| self.model.element(ElementId(*number)).is_some()).count() as u64
     }
 
     /// The name of an element.
-    pub fn name(&self, element: u64) -> u64 {
-        self.model.element(element).map_or(u64::MAX, |element| element.name())
+    pub fn name(&self, element: ElementId) -> u64 {
+        self.model.element(element).map_or(u64::MAX, |element| element.name().get())
     }
 
     pub fn type_number(&self, element: u64) -> u64 {
-        self.model.element(element).map_or(0, |element| element.type_number())
+        self.model.element(ElementId(element)).map_or(0, |element| element.type_id().get())
     }
 
     /// A version for a range: mostly that of a file.
     pub fn some_version(&self, random: &mut Random) -> u64 {
-        let versions: Vec<u64> = self.model.files().map(|file| file.version).collect();
+        let versions: Vec<u64> = self.model.files().map(|file| file.version.get()).collect();
         match random.below(4) {
             0 => random.below(32),
             _ => *random.choose(&versions),
@@ -48,20 +64,14 @@ impl Engine {
     }
 
     pub fn model_lines(&self) -> String {
-        String::from_utf8_lossy(&self.model.model_lines()).into_owned()
+        self.model.model_lines()
     }
 
     /// The entries of the log from a mark on.
     pub fn log(&self, mark: u64) -> String {
         let mut lines = String::new();
-        for entry in self.model.log().skip(mark as usize) {
-            let _ = match entry {
-                Entry::Import { element, parent, old_parent, old_files } => {
-                    writeln!(lines, "import,{element},{parent},{},{old_files:x}", or_dash(old_parent))
-                }
-                Entry::Restriction { element, old_files } => writeln!(lines, "restriction,{element},{old_files:x}"),
-                Entry::Extension { element, file } => writeln!(lines, "extension,{element},{file}"),
-            };
+        for entry in self.model.log_between(Mark(mark), self.model.mark()) {
+            let _ = writeln!(lines, "{entry}");
         }
         lines
     }
@@ -69,13 +79,13 @@ impl Engine {
     /// A line for every element of the deck, in the model or in a delivered tree: its parent, its set and its content.
     pub fn state(&self) -> String {
         let mut lines = String::new();
-        for element in (0..).map_while(|number| self.model.element(number)) {
-            let parent = or_dash(element.parent().map(|parent| parent.number()));
-            let _ = write!(lines, "{}: {parent}, {:x}:", element.number(), element.files());
+        for element in (0..).map_while(|number| self.model.element(ElementId(number))) {
+            let parent = or_dash(element.parent().map(|parent| parent.id()));
+            let _ = write!(lines, "{}: {parent}, {:x}:", element.id(), element.own_files());
             for item in element.items() {
                 let _ = match item {
-                    Item::Element(child) => write!(lines, " {}", child.number()),
-                    Item::Text(text) => write!(lines, " [{}]", fields(text)),
+                    Item::Element(child) => write!(lines, " {}", child.id()),
+                    Item::Text(text) => write!(lines, " [{}]", text.in_deck()),
                 };
             }
             lines.push('\n');
@@ -94,16 +104,6 @@ pub fn answer(file: u64, answer: &Result<Counts, Refusal>) -> String {
     }
 }
 
-pub fn or_dash(number: Option<u64>) -> String {
+pub fn or_dash(number: Option<impl ToString>) -> String {
     number.map_or("-".into(), |number| number.to_string())
-}
-
-/// The kind and the value, as a C line has them.
-fn fields(text: Text<'_>) -> String {
-    match text {
-        Text::Enum(number) => format!("e,{number}"),
-        Text::String(string) => format!("s,{}", String::from_utf8_lossy(string)),
-        Text::Unsigned(number) => format!("u,{number}"),
-        Text::Float(float) => format!("f,{:x}", float.to_bits()),
-    }
 }

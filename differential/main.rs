@@ -333,6 +333,6 @@ fn all_times(decks: &[PathBuf]) -> bool {
 fn first_merge(deck: Vec<u8>) -> Option<(Vec<u8>, u64, u64)> {
     let mut engine = engine::Engine::load(&deck).ok()?;
     let file = *engine.waiting().first()?;
-    engine.model.merge(file).ok()?;
-    Some((deck, file, engine.model.mark()))
+    engine.merge(file).ok()?;
+    Some((deck, file, engine.mark()))
 }

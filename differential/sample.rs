@@ -83,7 +83,7 @@ fn answers(deck: &[u8]) -> Option<String> {
     let trees = Trees::load(Deck::read(deck)?);
     let mut lines = String::new();
     for (place, file) in waiting.iter().enumerate() {
-        if let Err(refusal) = engine.model.merge(*file)
+        if let Err(refusal) = engine.merge(*file)
             && SET_ASIDE.contains(&refusal.number())
         {
             return None;
@@ -111,7 +111,7 @@ fn answers(deck: &[u8]) -> Option<String> {
 
 /// The model's element of a name, if it is the only one.
 fn only_element(engine: &Engine, name: u64) -> Option<u64> {
-    let mut elements = engine.model.elements().filter(|element| element.name() == name);
+    let mut elements = engine.model.elements().filter(|element| element.name().get() == name);
     let element = elements.next()?;
-    elements.next().is_none().then_some(element.number())
+    elements.next().is_none().then_some(element.id().get())
 }

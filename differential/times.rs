@@ -8,6 +8,7 @@ use crate::deck::Deck;
 use crate::engine::Engine;
 use crate::original;
 use crate::trees::Trees;
+use zapelaritz::{ElementId, FileId, Mark};
 
 const ROUNDS: usize = 200;
 
@@ -72,7 +73,7 @@ pub fn of_merge(deck: &[u8], file: u64) -> Option<Both> {
     let loaded = Engine::load(deck).ok()?.model;
     let engine = || {
         let mut model = loaded.clone();
-        Some(time(|| model.merge(black_box(file))))
+        Some(time(|| model.merge(black_box(FileId(file)))))
     };
     let original = || {
         let trees = Trees::load(Deck::read(deck)?);
@@ -87,10 +88,10 @@ pub fn of_merge(deck: &[u8], file: u64) -> Option<Both> {
 /// The rollback of that merge.
 pub fn of_rollback(deck: &[u8], file: u64) -> Option<Both> {
     let mut merged = Engine::load(deck).ok()?.model;
-    merged.merge(file).ok()?;
+    merged.merge(FileId(file)).ok()?;
     let engine = || {
         let mut model = merged.clone();
-        Some(time(|| model.rollback(black_box(0))))
+        Some(time(|| model.rollback(black_box(Mark::START))))
     };
     let original = || {
         let trees = Trees::load(Deck::read(deck)?);
@@ -103,13 +104,14 @@ pub fn of_rollback(deck: &[u8], file: u64) -> Option<Both> {
 /// An insert range in the root's list behind that merge, for the name of its last child.
 pub fn of_range(deck: &[u8], file: u64) -> Option<Both> {
     let mut model = Engine::load(deck).ok()?.model;
-    model.merge(file).ok()?;
+    model.merge(FileId(file)).ok()?;
     let name = model.root().sub_elements().last()?.name();
-    let version = model.files().find(|declared| declared.number == file)?.version;
+    let version = model.version_of(FileId(file))?;
     let trees = Trees::load(Deck::read(deck)?);
     trees.merge(file).ok()?;
     original::log();
-    let engine = || Some(time(|| model.range(0, black_box(name), version)));
-    let original = || Some(time(|| trees.range(0, black_box(name as u16), version as usize).is_ok()));
+    let engine = || Some(time(|| model.range(ElementId::ROOT, black_box(name), version)));
+    let (name, version) = (name.get() as u16, version.get() as usize);
+    let original = || Some(time(|| trees.range(0, black_box(name), version).is_ok()));
     Both::of(engine, original)
 }

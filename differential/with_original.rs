@@ -52,8 +52,8 @@ pub fn compare(deck: &[u8], order: Order, ranges: u64, tally: &mut Tally) -> Res
     let mut random = Random::new(deck.len() as u64);
     compare_ranges(&engine, &trees, &names, ranges, &mut random, tally)?;
     for file in waiting {
-        let mark = engine.model.mark();
-        let answer = engine.model.merge(file);
+        let mark = engine.mark();
+        let answer = engine.merge(file);
         if let Err(refusal) = answer
             && let Some(place) = SET_ASIDE.iter().position(|number| *number == refusal.number())
         {
@@ -74,7 +74,9 @@ pub fn compare(deck: &[u8], order: Order, ranges: u64, tally: &mut Tally) -> Res
             Err(Refusal::Other) => "an error that no merge has".into(),
         };
         let engines = match answer {
-            Err(zapelaritz::Refusal::NotInVersion { element, name }) => refused_7(file, engine.name(element), name),
+            Err(zapelaritz::Refusal::NotInVersion { element, name }) => {
+                refused_7(file, engine.name(element), name.get())
+            }
             _ => engine::answer(file, &answer),
         };
         let call = format!("merge,{file}");
@@ -172,7 +174,7 @@ fn compare_range(
     version: u64,
     tally: &mut Tally,
 ) -> Result<(), Difference> {
-    let answer = engine.model.range(element, name.into(), version);
+    let answer = engine.range(element, name.into(), version);
     let engines = match answer {
         Ok(places) => format!("range,{},{}", places.first, places.last),
         Err(refusal) => {

@@ -39,7 +39,7 @@ fn all_calls(deck: &[u8], calls: u64, engine: &mut Engine, world: &mut rules::Wo
         match random.below(12) {
             0 => compare_merge(random.below(65), engine, world)?,
             1 if !waiting.is_empty() => compare_merge(*random.choose(&waiting), engine, world)?,
-            2 => compare_rollback(random.below(engine.model.mark() + 2), engine, world)?,
+            2 => compare_rollback(random.below(engine.mark() + 2), engine, world)?,
             3 => compare_rollback(random_mark(engine, &mut random), engine, world)?,
             4 => compare_range(random.next(), random.next(), random.next(), engine, world)?,
             _ => {
@@ -60,12 +60,8 @@ fn all_calls(deck: &[u8], calls: u64, engine: &mut Engine, world: &mut rules::Wo
 
 /// The length of the log behind some merge, or 0.
 fn random_mark(engine: &Engine, random: &mut Random) -> u64 {
-    let marks: Vec<u64> = (1..)
-        .zip(engine.model.log())
-        .filter(|(_, entry)| matches!(entry, zapelaritz::Entry::Extension { element: 0, .. }))
-        .map(|(mark, _)| mark)
-        .chain([0])
-        .collect();
+    let merges = engine.model.standing_merges();
+    let marks: Vec<u64> = merges.map(|merge| merge.after.get()).chain([0]).collect();
     *random.choose(&marks)
 }
 
@@ -73,13 +69,13 @@ fn compare_states(call: &str, engine: &Engine, world: &rules::World) -> Result<(
     let lines = String::from_utf8_lossy(&world.model_lines()).into_owned();
     same("rules: the model", call, engine.model_lines(), lines)?;
     same("rules: the state", call, engine.state(), state(world))?;
-    same("rules: the mark", call, engine.model.mark().to_string(), world.mark().to_string())?;
+    same("rules: the mark", call, engine.mark().to_string(), world.mark().to_string())?;
     same("rules: the log", call, engine.log(0), log(world))
 }
 
 fn compare_merge(file: u64, engine: &mut Engine, world: &mut rules::World) -> Result<(), Difference> {
     let call = format!("merge,{file}");
-    let answer = engine.model.merge(file);
+    let answer = engine.merge(file);
     let others = match world.merge(file) {
         rules::Answer::Merged { imports, restrictions, extensions } => {
             format!("merged,{file},{imports},{restrictions},{extensions}")
@@ -98,7 +94,7 @@ fn compare_rollback(mark: u64, engine: &mut Engine, world: &mut rules::World) ->
         Ok(entries) => format!("rolledback,{mark},{entries}"),
         Err(number) => format!("rollback-refused,{mark},{number}"),
     };
-    let engines = engine.model.rollback(mark).map_err(|refusal| refusal.number());
+    let engines = engine.rollback(mark).map_err(|refusal| refusal.number());
     let others = world.rollback(mark).map_err(|refusal| refusal.number);
     same("rules: a rollback", &call, answer(engines), answer(others))?;
     compare_states(&call, engine, world)
@@ -111,7 +107,7 @@ fn compare_range(
     engine: &Engine,
     world: &rules::World,
 ) -> Result<(), Difference> {
-    let engines = match engine.model.range(element, name, version) {
+    let engines = match engine.range(element, name, version) {
         Ok(places) => format!("range,{},{}", places.first, places.last),
         Err(refusal) => {
             format!("refused,{},{},{}", refusal.number(), or_dash(refusal.element()), or_dash(refusal.name()))
