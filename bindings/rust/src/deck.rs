@@ -245,8 +245,8 @@ pub struct Node {
 enum Content {
     Node(Node),
     String(String),
-    /// The kind and value of a text that is no string.
-    Other(String),
+    /// The kind and value of an enum number, a whole number or a float.
+    Number(String),
 }
 
 impl Node {
@@ -357,7 +357,7 @@ impl Node {
     pub fn text<'a>(mut self, text: impl Into<Text<'a>>) -> Node {
         self.content.push(match text.into() {
             Text::String(string) => Content::String(string.into()),
-            other => Content::Other(other.in_deck().to_string()),
+            number => Content::Number(number.in_deck().to_string()),
         });
         self
     }
@@ -417,7 +417,7 @@ impl Lines {
                     check_string(string)?;
                     self.add(format_args!("C,{below},{}", Text::String(string).in_deck()));
                 }
-                Content::Other(text) => self.add(format_args!("C,{below},{text}")),
+                Content::Number(text) => self.add(format_args!("C,{below},{text}")),
             }
         }
         Ok(())

@@ -69,7 +69,7 @@
 //! | autosar-data 0.23.0 | here |
 //! |---|---|
 //! | `AutosarModel::load_buffer`, `load_file`: parse ARXML, and merge it into what is loaded | [`Model::load`] reads a deck with model and deliveries; [`Model::merge`] merges one of them |
-//! | the error of such a merge, `InvalidFileMerge` with a path | [`Refusal`], with a number, and with an element and a name where it has them |
+//! | an error of such a merge, `InvalidFileMerge` with a path | [`Refusal`], with a number, and with an element and a name where it has them |
 //! | after a failed merge, `remove_from_file` is called | a refused merge changes nothing |
 //! | `AutosarModel::remove_file`, for any file: removes what is in that file alone | [`Model::rollback`], for the latest merges: all stands as it did before them |
 //! | the undo log of a merge, which is private and ends with it | [`Model::log`], [`Model::standing_merges`], [`Model::mark`] |
@@ -90,16 +90,16 @@
 //! | `Element::sub_elements`, `get_sub_element`, `get_sub_element_at` | [`Element::sub_elements`], [`Element::sub_element`], [`Element::item_at`] |
 //! | `Element::position` | [`Element::position`] |
 //! | `Element::character_data`, a `CharacterData` of four kinds | [`Element::text`], a [`Text`] of four kinds |
-//! | `Element::list_valid_sub_elements`: the names of the least version, each with whether it may be inserted | [`Element::allowed_names`] of a version; [`Element::palette`]: each row with the places, or with the refusal |
+//! | `Element::list_valid_sub_elements`: the names that its least version knows, each with whether it is named and whether it may be inserted | [`Element::allowed_names`] of a version; [`Element::palette`]: each row with the places, or with the refusal |
 //! | `Element::calc_element_insert_range` | [`Element::range`], [`Model::range`] |
 //! | `AutosarModel::serialize_files`, `Element::serialize`: XML | [`Model::model_lines`]; [`DeckBuilder`] from a model |
 //!
 //! These have no counterpart here: reading and writing XML; attributes and comments; references (`get_reference_target`,
 //! `get_references_to`, `check_references`); edits (`create_sub_element`, `move_element_here`, `remove_sub_element`,
-//! `set_character_data`, `set_item_name`, `add_to_file`, `sort`); `check_version_compatibility`; files that are created. A
-//! model changes by merges and rollbacks alone. A deck has limits, which `docs/DECK.md` lists.
+//! `set_character_data`, `set_item_name`, `add_to_file`, `sort`, `create_file`); `check_version_compatibility`. A model changes
+//! by merges and rollbacks alone. A deck has limits, which `docs/DECK.md` lists.
 //!
-//! These have no counterpart there: the three counts of a merge, marks, and a log that outlives the merge.
+//! These have no public counterpart there: the three counts of a merge, marks, and a log that outlives the merge.
 //!
 //! # Stack
 //!

@@ -172,7 +172,7 @@ fn parameter_of_c(parameter: &str) -> (String, String) {
     (name.trim().to_string(), kind)
 }
 
-/// The header without comments and without the preprocessor's lines.
+/// The declarations of the header: no comments, no preprocessor's lines, no inline functions.
 fn header_text() -> String {
     let header = text("include/zapelaritz.h");
     let mut parts = header.split("/*");
@@ -180,10 +180,18 @@ fn header_text() -> String {
     for part in parts {
         code += part.split_once("*/").unwrap().1;
     }
-    code.lines()
-        .filter(|line| !line.starts_with('#'))
-        .collect::<Vec<_>>()
-        .join("\n")
+    let code: Vec<&str> = code.lines().filter(|line| !line.starts_with('#')).collect();
+    without_inline(&code.join("\n"))
+}
+
+/// What the header defines itself is no function of the library. Its closing brace begins a line.
+fn without_inline(code: &str) -> String {
+    let mut parts = code.split("static inline ");
+    let mut declarations = parts.next().unwrap().to_string();
+    for part in parts {
+        declarations += part.split_once("\n}\n").unwrap().1;
+    }
+    declarations
 }
 
 fn header() -> Functions {
