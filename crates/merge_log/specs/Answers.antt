@@ -1,5 +1,5 @@
--- What the answers of the code stand for in the rules: number, element and name of each refusal are those of `refusalNumber`,
--- `refusalElement` and `refusalName`. Assumes nothing.
+-- What the answers of the code stand for in the rules, where `refusalFields` gives number, element and name of each refusal.
+-- Assumes nothing.
 use Rattle.tables.specs.Records.{State}
 use Rattle.merge_rules.specs.Refusals.{Refusal, notWaiting, unmergeable, notInVersion, usedTwice, logFull, contentFull, noSuchElement, charactersParent, noPlace, noMark, Outcome, done, conflict, refused}
 use Rattle.merge_log.specs.declared.refusals.Refusal as program

@@ -1,18 +1,10 @@
--- What a refusal says: its number, its element and its name. Assumes nothing.
+-- What the fields of a refusal in the code stand for in the rules. Assumes nothing.
 use mathlib.Core.Option.{Option, none, some}
 use Prim.Native.Nat.{ℕ}
-use Rattle.merge_rules.specs.Refusals.{Refusal, refusalNumber, refusalElement, refusalName}
+use Rattle.merge_rules.specs.Refusals.{RefusalFields}
 use Rattle.merge_log.specs.declared.refusals.Optional.{Optional}
 use Rattle.merge_log.specs.declared.refusals.Optional.the-variants.{Missing, Given}
 use Rattle.merge_log.specs.declared.refusals.RefusalFields as program
-
-pub record RefusalFields : Type 0 where
-  pub number : ℕ
-  pub element : Option ℕ
-  pub name : Option ℕ
-
-unfoldable pub refusalFieldsOf : Refusal → RefusalFields
-refusalFieldsOf r = record { number = refusalNumber r; element = refusalElement r; name = refusalName r }
 
 abbrev pub optionalIs : Optional → Option ℕ
 optionalIs Missing = none

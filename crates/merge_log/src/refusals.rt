@@ -4,7 +4,8 @@ use tables::numbers::Name;
 ghost use mathlib.Core.Option.{none, some};
 ghost use mathlib.Core.Path.{_≡_};
 ghost use Rattle.merge_log.specs.Answers.{refusalIs};
-ghost use Rattle.merge_log.specs.Refusals.{refusalFieldsIs, refusalFieldsOf};
+ghost use Rattle.merge_log.specs.Refusals.{refusalFieldsIs};
+ghost use Rattle.merge_rules.specs.Refusals.{refusalFields};
 
 pub enum Refusal {
     NotWaiting,
@@ -58,7 +59,7 @@ fn with_element(number: u64, e: Element) -> RefusalFields
 }
 
 pub fn refusal_fields(x: Refusal) -> RefusalFields
-    ensures { λ r. ⌜ refusalFieldsIs r ≡ refusalFieldsOf (refusalIs x) ⌝ }
+    ensures { λ r. ⌜ refusalFieldsIs r ≡ refusalFields (refusalIs x) ⌝ }
 {
     match x {
         Refusal::NotWaiting => alone(5),

@@ -14,7 +14,7 @@ use Rattle.merge_rules.specs.Book.{Call, callMerge, callRollback, callRa
 use Rattle.merge_rules.specs.Calls.{merge, RangeAnswer, rangeIs, rangeRefused, range, RollbackAnswer, takenOff, rollbackRefused, rollback}
 use Rattle.merge_rules.specs.DeckLines.{treeLines, waitingLines, waits, treesLines}
 use Rattle.merge_rules.specs.Program.{decimalOf, hexadecimalOf, orDash, lineOf, modelLines, answerLine, refusedDeck}
-use Rattle.merge_rules.specs.Refusals.{refusalNumber, refusalElement, refusalName}
+use Rattle.merge_rules.specs.Refusals.{refusalFields}
 
 -- ---- what a line asks for
 
@@ -71,16 +71,16 @@ readRequest line = byWord (fields line)
 -- `rolledback,mark,entries` or `rollback-refused,mark,number`
 unfoldable pub rollbackLine : ℕ → RollbackAnswer → List ℕ
 rollbackLine mark (takenOff n) = lineOf (bytes "rolledback" ∷ decimalOf mark ∷ decimalOf n ∷ [])
-rollbackLine mark (rollbackRefused r) = lineOf (bytes "rollback-refused" ∷ decimalOf mark ∷ decimalOf (refusalNumber r) ∷ [])
+rollbackLine mark (rollbackRefused r) = lineOf (bytes "rollback-refused" ∷ decimalOf mark ∷ decimalOf (refusalFields r .number) ∷ [])
 
 -- `range,element,name,version,first,last` or `range-refused,element,name,version,number,element,name`
 unfoldable pub rangeLine : Element → Name → Version → RangeAnswer → List ℕ
 rangeLine e n v (rangeIs first last) =
     lineOf (bytes "range" ∷ decimalOf e ∷ decimalOf n ∷ decimalOf v ∷ decimalOf first ∷ decimalOf last ∷ [])
 rangeLine e n v (rangeRefused r) =
+    let f = refusalFields r in
     lineOf
-    (bytes "range-refused" ∷ decimalOf e ∷ decimalOf n ∷ decimalOf v ∷ decimalOf (refusalNumber r) ∷ orDash (refusalElement r)
-    ∷ orDash (refusalName r) ∷ [])
+    (bytes "range-refused" ∷ decimalOf e ∷ decimalOf n ∷ decimalOf v ∷ decimalOf (f .number) ∷ orDash (f .element) ∷ orDash (f .name) ∷ [])
 
 -- `import,element,parent,old parent,old set`, `restriction,element,old set`, `extension,element,file`
 unfoldable pub entryLine : Entry → List ℕ

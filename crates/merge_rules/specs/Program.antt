@@ -12,7 +12,7 @@ use Rattle.tables.specs.Texts.{bytesAt}
 use Rattle.deck.specs.Load.{load, Load, loaded, refusedAt}
 use Rattle.merge_rules.specs.Calls.{MergeAnswer, merged, mergeRefused, merge}
 use Rattle.merge_rules.specs.Unfolding.{mergeRules}
-use Rattle.merge_rules.specs.Refusals.{refusalNumber, refusalElement, refusalName}
+use Rattle.merge_rules.specs.Refusals.{refusalFields}
 
 -- ---- numbers and lines
 
@@ -85,7 +85,8 @@ unfoldable pub answerLine : FileNumber → MergeAnswer → List ℕ
 answerLine f (merged c) =
     lineOf (bytes "merged" ∷ decimalOf f ∷ decimalOf (c .imports) ∷ decimalOf (c .restrictions) ∷ decimalOf (c .extensions) ∷ [])
 answerLine f (mergeRefused r) =
-    lineOf (bytes "refused" ∷ decimalOf f ∷ decimalOf (refusalNumber r) ∷ orDash (refusalElement r) ∷ orDash (refusalName r) ∷ [])
+    let x = refusalFields r in
+    lineOf (bytes "refused" ∷ decimalOf f ∷ decimalOf (x .number) ∷ orDash (x .element) ∷ orDash (x .name) ∷ [])
 
 -- merges each waiting tree in deck order, also after a refusal, and prints for each its answer, then the model
 unfoldable pub mergeLines : Fixed → List Tree → State → List ℕ

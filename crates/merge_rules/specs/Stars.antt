@@ -9,7 +9,7 @@ use Rattle.deck.specs.Load.{load, Load, loaded, refusedAt}
 use Rattle.merge_rules.specs.Book.{Call, callMerge, callRollback, callRange, Answer, ofMerge, ofRollback, ofRange, call}
 use Rattle.merge_rules.specs.Calls.{merged, mergeRefused, takenOff, rollbackRefused, rangeIs, rangeRefused}
 use Rattle.merge_rules.specs.Program.{output, modelLines, programRules}
-use Rattle.merge_rules.specs.Refusals.{Refusal, refusalNumber, refusalElement, refusalName}
+use Rattle.merge_rules.specs.Refusals.{Refusal, refusalFields}
 use Rattle.merge_rules.specs.Unfolding.{mergeRules}
 
 -- ---- a row: a deck with what the program prints, or a deck with calls, the answers to them and the model's lines behind them
@@ -26,7 +26,7 @@ pub data Row : Type 0 where
   gives : List ℕ → List Call → List Numbered → List ℕ → Row
 
 unfoldable pub numberedRefusal : Refusal → Numbered
-numberedRefusal r = refusal (refusalNumber r) (refusalElement r) (refusalName r)
+numberedRefusal r = let f = refusalFields r in refusal (f .number) (f .element) (f .name)
 
 unfoldable pub numbered : Answer → Numbered
 numbered (ofMerge (merged c)) = counts (c .imports) (c .restrictions) (c .extensions)

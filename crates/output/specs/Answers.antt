@@ -6,12 +6,12 @@ use Rattle.tables.specs.Records.{FileNumber, Element, Name, Version}
 use Rattle.merge_rules.specs.Calls.{MergeAnswer, RangeAnswer, RollbackAnswer}
 use Rattle.merge_rules.specs.CallLists.{rollbackLine, rangeLine}
 use Rattle.merge_rules.specs.Program.{decimalOf, orDash, lineOf, answerLine}
-use Rattle.merge_rules.specs.Refusals.{Refusal, refusalNumber, refusalElement, refusalName}
+use Rattle.merge_rules.specs.Refusals.{Refusal, refusalFields}
 use Rattle.merge_rules.specs.TableCalls.{CallAnswer, badTables, answered}
 
 -- the last three fields of a refusal: its number, element and name
-unfoldable pub refusalFields : Refusal → List ℕ
-refusalFields r = lineOf (decimalOf (refusalNumber r) ∷ orDash (refusalElement r) ∷ orDash (refusalName r) ∷ [])
+unfoldable pub refusalText : Refusal → List ℕ
+refusalText r = let f = refusalFields r in lineOf (decimalOf (f .number) ∷ orDash (f .element) ∷ orDash (f .name) ∷ [])
 
 -- the line of a call's answer; 0 is printed as a refusal without element and name
 unfoldable pub mergeText : FileNumber → CallAnswer MergeAnswer → List ℕ

@@ -22,7 +22,7 @@ ghost use Rattle.merge_log.specs.Answers.{refusalIs};
 ghost use Rattle.merge.specs.Calls.{countsIs, mergeAnswerIs, rangeAnswerIs, rollbackAnswerIs};
 ghost use Rattle.printing.specs.Buffers.{bufferIs, Appends};
 ghost use Rattle.merge_log.specs.Refusals.{optionalIs};
-ghost use Rattle.output.specs.Answers.{refusalFields, mergeText, rollbackText, rangeText};
+ghost use Rattle.output.specs.Answers.{refusalText, mergeText, rollbackText, rangeText};
 
 // A word with its comma and a number with its own: the first two fields of a line.
 fn append_head(out: &mut [u8], w: Written, word: &[u8], n: u64) -> Written
@@ -65,7 +65,7 @@ fn append_optional(out: &mut [u8], w: Written, n: Optional, end: u8) -> Written
 
 // A refusal's number, element and name.
 fn append_refusal(out: &mut [u8], w: Written, x: Refusal) -> Written
-    ensures { λ r. ⌜ Appends (bufferIs w (now (out .entry))) (refusalFields (refusalIs x)) (bufferIs r (now (out .exit))) ⌝ }
+    ensures { λ r. ⌜ Appends (bufferIs w (now (out .entry))) (refusalText (refusalIs x)) (bufferIs r (now (out .exit))) ⌝ }
 {
     let f = refusal_fields(x);
     let e = f.element;

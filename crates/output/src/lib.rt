@@ -1,5 +1,5 @@
 // What the program prints for a deck, and for a deck with a list of calls.
 pub mod answers;
-mod entries;
+pub mod entries;
 pub mod print;
 mod reply;

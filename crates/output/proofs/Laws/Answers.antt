@@ -4,14 +4,14 @@ use mathlib.Core.Path.{_≡_, refl, ap}
 use Prim.Native.Nat.{ℕ}
 use Rattle.tables.specs.Bytes.{bytes}
 use Rattle.merge_rules.specs.Program.{decimalOf, orDash, lineOf}
-use Rattle.merge_rules.specs.Refusals.{Refusal}
-use Rattle.output.specs.Answers.{refusalFields}
-use Rattle.merge_log.specs.Refusals.{RefusalFields, refusalFieldsOf, optionalIs, refusalFieldsIs}
+use Rattle.merge_rules.specs.Refusals.{Refusal, RefusalFields, refusalFields}
+use Rattle.output.specs.Answers.{refusalText}
+use Rattle.merge_log.specs.Refusals.{optionalIs, refusalFieldsIs}
 use Rattle.merge_log.specs.declared.refusals.RefusalFields as program
 
-pub refusal-text : (f : program.RefusalFields) (r : Refusal) → refusalFieldsIs f ≡ refusalFieldsOf r
-    → lineOf (decimalOf (f .number) ∷ orDash (optionalIs (f .element)) ∷ orDash (optionalIs (f .name)) ∷ []) ≡ refusalFields r
-unfolding refusalFields refusalFieldsOf
+pub refusal-text : (f : program.RefusalFields) (r : Refusal) → refusalFieldsIs f ≡ refusalFields r
+    → lineOf (decimalOf (f .number) ∷ orDash (optionalIs (f .element)) ∷ orDash (optionalIs (f .name)) ∷ []) ≡ refusalText r
+unfolding refusalText
 refusal-text f r e = ap (λ (g : RefusalFields). lineOf (decimalOf (g .number) ∷ orDash (g .element) ∷ orDash (g .name) ∷ [])) e
 
 -- as for a refusal without element and name

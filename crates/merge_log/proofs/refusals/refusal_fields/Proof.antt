@@ -1,12 +1,11 @@
 -- `refusals::refusal_fields` meets its contract. Assumes nothing.
-use Rattle.merge_rules.specs.Refusals.{refusalNumber, refusalElement, refusalName}
-use Rattle.merge_log.specs.Refusals.{refusalFieldsOf}
+use Rattle.merge_rules.specs.Refusals.{refusalFields}
 use borrow.Author.Needs.{needs}
 use Rattle.merge_log.proofs.refusals.refusal_fields.Statement.{statement}
 use Rattle.merge_log.proofs.refusals.refusal_fields.Tie as tie
 
 pub refusal-fields-spec : {M : Type 1} → statement M
-unfolding refusalFieldsOf refusalNumber refusalElement refusalName
+unfolding refusalFields
 refusal-fields-spec =
     tie.close
     (tie.spec

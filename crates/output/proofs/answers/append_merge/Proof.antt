@@ -1,7 +1,7 @@
 -- `answers::append_merge` meets its contract. Assumes nothing.
 use Rattle.tables.specs.Bytes.{bytes}
 use Rattle.merge_rules.specs.Program.{answerLine}
-use Rattle.output.specs.Answers.{refusalFields, mergeText}
+use Rattle.output.specs.Answers.{refusalText, mergeText}
 use Rattle.printing.proofs.Laws.Buffers.{then, reads}
 use Rattle.output.proofs.Laws.Answers.{zero-fields, behind-head}
 use borrow.Author.Needs.{needs}
@@ -13,7 +13,7 @@ unfolding mergeText
 returns c = rw (c .before .before .before .before .before .a .given .1) (c .before .before .append-merged .ensures)
 
 returns-2 : tie.Need-returns-2
-unfolding mergeText answerLine refusalFields bytes
+unfolding mergeText answerLine refusalText bytes
 returns-2 c =
     rw
     (c .before .before .before .before .before .before .before .before .before .before .a2 .given .1)

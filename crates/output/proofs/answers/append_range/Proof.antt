@@ -1,7 +1,7 @@
 -- `answers::append_range` meets its contract. Assumes nothing.
 use Rattle.tables.specs.Bytes.{bytes}
 use Rattle.merge_rules.specs.CallLists.{rangeLine}
-use Rattle.output.specs.Answers.{refusalFields, rangeText}
+use Rattle.output.specs.Answers.{refusalText, rangeText}
 use Rattle.printing.proofs.Laws.Buffers.{then, reads}
 use Rattle.output.proofs.Laws.Answers.{zero-fields, behind-asked}
 use borrow.Author.Needs.{needs}
@@ -16,7 +16,7 @@ returns c =
     (reads (behind-asked _ _ _ _ _ _) (then (c .before .before .before .before .before .before .append-asked .ensures) (c .before .before .append-tail .ensures)))
 
 returns-2 : tie.Need-returns-2
-unfolding rangeText rangeLine refusalFields bytes
+unfolding rangeText rangeLine refusalText bytes
 returns-2 c =
     rw
     (c .before .before .before .before .before .before .before .before .before .before .a2 .given .1)

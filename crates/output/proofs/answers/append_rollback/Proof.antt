@@ -3,8 +3,8 @@ use mathlib.Core.Path.{sym, ap}
 use Rattle.tables.specs.Bytes.{bytes}
 use Rattle.merge_rules.specs.CallLists.{rollbackLine}
 use Rattle.merge_rules.specs.Program.{lineOf, programRules}
+use Rattle.merge_rules.specs.Refusals.{RefusalFields}
 use Rattle.output.specs.Answers.{rollbackText}
-use Rattle.merge_log.specs.Refusals.{RefusalFields, refusalFieldsOf}
 use Rattle.printing.proofs.Laws.Buffers.{then}
 use borrow.Author.Needs.{needs}
 use Rattle.output.proofs.answers.append_rollback.Statement.{statement}
@@ -18,7 +18,7 @@ returns c =
     (then (c .before .before .before .before .before .before .append-bytes .ensures) (c .before .before .append-tail .ensures))
 
 returns-2 : tie.Need-returns-2
-unfolding rollbackText rollbackLine refusalFieldsOf
+unfolding rollbackText rollbackLine
 returns-2 c = rw (c .before .before .before .before .before .before .a2 .given .1, ap (λ (f : RefusalFields). f .number) (sym (c .before .before .before .before .refusal-fields .ensures))) (c .before .before .append-rollback-refused .ensures)
 
 returns-3 : tie.Need-returns-3
