@@ -128,6 +128,7 @@ mod numbers;
 mod print;
 mod refusal;
 mod schema;
+pub mod statement;
 mod tree;
 
 pub use deck::{BuildError, DeckBuilder, Node};
