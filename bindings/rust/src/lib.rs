@@ -60,6 +60,7 @@
 //! - [`ElementId`], [`Name`], [`TypeId`], [`FileId`], [`Version`], [`Mark`]: a type for each kind of number. One that is
 //!   taken for another does not compile.
 //! - [`LoadError`], [`Refusal`]: why a deck was not loaded, and why a call was refused.
+//! - [`statement`]: what each delivery is counted for, as a table, as CSV and as a page; `zapelaritz-statement` prints it.
 //!
 //! # For users of autosar-data
 //!

@@ -1,5 +1,7 @@
 //! Prints the statement of a deck: `zapelaritz-statement [--csv | --html] DECK [CALLS]`.
 
+#![deny(unsafe_code)]
+
 use std::env;
 use std::ffi::OsString;
 use std::fs;
@@ -149,6 +151,7 @@ fn print(text: &str) -> Result<ExitCode, Failure> {
 
 /// Before `main`, Rust puts /dev/null in the place of a standard output that is closed, and a statement would be lost unseen.
 /// So it is looked at before that.
+#[allow(unsafe_code)]
 mod closed {
     use std::ffi::c_int;
     use std::sync::atomic::{AtomicBool, Ordering};

@@ -24,7 +24,7 @@ use calls::Call;
 /// use zapelaritz::statement::{State, Statement};
 /// use zapelaritz::Mark;
 ///
-/// let deck = b"T,0,0,0,0\nF,0,0\nF,1,0\nM\nE,0,0,1\nB,1\nE,0,0,0\n";
+/// let deck = "T,0,0,0,0\nF,0,0\nF,1,0\nM\nE,0,0,1\nB,1\nE,0,0,0\n";
 /// let statement = Statement::of(deck, None)?;
 /// assert_eq!(statement.total().extensions, 1);
 ///
@@ -47,6 +47,7 @@ pub struct Statement {
 
 /// A merge that was asked for.
 #[derive(Clone, Debug, PartialEq, Eq)]
+#[non_exhaustive]
 pub struct Delivery {
     /// The line of the list of calls, counted from 1; without a list, the delivery's place in the order of the deck.
     pub call: u64,
@@ -83,6 +84,7 @@ pub enum State {
 
 /// One thing that a merge did, and is counted for.
 #[derive(Clone, Debug, PartialEq, Eq)]
+#[non_exhaustive]
 pub struct Counted {
     /// What was done.
     pub kind: Kind,
@@ -107,6 +109,7 @@ pub enum Kind {
 
 /// A rollback that was asked for.
 #[derive(Clone, Debug, PartialEq, Eq)]
+#[non_exhaustive]
 pub struct Rollback {
     /// The line of the list of calls, counted from 1.
     pub call: u64,
@@ -151,7 +154,7 @@ impl Error for StatementError {}
 impl Statement {
     /// Makes the merges and rollbacks of a list of calls, and passes over its other calls; without a list it merges each
     /// delivery in the order of the deck.
-    pub fn of(deck: &[u8], calls: Option<&[u8]>) -> Result<Statement, StatementError> {
+    pub fn of(deck: impl AsRef<[u8]>, calls: Option<&[u8]>) -> Result<Statement, StatementError> {
         let model = Model::load(deck).map_err(StatementError::Deck)?;
         let delivered: Vec<FileId> = model.waiting().map(|tree| tree.file).collect();
         let calls = match calls {
