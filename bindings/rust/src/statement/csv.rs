@@ -68,11 +68,7 @@ impl<'a> Row<'a> {
             row,
             call: delivery.call,
             file: Some(delivery.file.get()),
-            state: match delivery.state {
-                State::Stands => "stands",
-                State::Withdrawn { .. } => "withdrawn",
-                State::Refused { .. } => "refused",
-            },
+            state: delivery.state.word(),
             withdrawn_by,
             rollback_to,
             ..Row::default()

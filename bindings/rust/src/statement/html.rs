@@ -2,7 +2,7 @@
 
 use std::fmt::{self, Formatter};
 
-use super::{file_list, Delivery, State, Statement};
+use super::{count_values, file_list, Statement, COUNT_NAMES};
 use crate::model::Counts;
 use crate::numbers::Name;
 use crate::tree::{Element, Item, Text};
@@ -53,20 +53,17 @@ impl fmt::Display for Page<'_> {
 }
 
 fn write_head(statement: &Statement, f: &mut Formatter<'_>) -> fmt::Result {
-    let source = Escaped(&statement.source);
-    let title = if statement.source.is_empty() {
-        ""
-    } else {
-        " of "
-    };
+    let title = statement.heading();
+    let title = Escaped(&title);
     write!(
         f,
         "<!DOCTYPE html>\n<html lang=\"en\">\n<head>\n<meta charset=\"utf-8\">\n\
         <meta name=\"viewport\" content=\"width=device-width, initial-scale=1\">\n\
         <meta http-equiv=\"Content-Security-Policy\" content=\"default-src 'none'; style-src 'unsafe-inline'; script-src 'unsafe-inline'\">\n\
-        <title>Statement{title}{source}</title>\n<style>\n{STYLE}</style>\n</head>\n<body>\n<h1>Statement</h1>\n"
+        <title>{title}</title>\n<style>\n{STYLE}</style>\n</head>\n<body>\n<h1>Statement</h1>\n"
     )?;
     if !statement.source.is_empty() {
+        let source = Escaped(&statement.source);
         writeln!(f, "<p class=\"quiet\">{source}</p>")?;
     }
     let total = statement.total();
@@ -80,42 +77,32 @@ fn write_head(statement: &Statement, f: &mut Formatter<'_>) -> fmt::Result {
     )
 }
 
-const COUNTS_HEADER: &str =
-    "<th class=\"number\">imported</th><th class=\"number\">restricted</th>\
-    <th class=\"number\">extended</th><th class=\"number\">sum</th>";
+fn write_count_names(f: &mut Formatter<'_>) -> fmt::Result {
+    for name in COUNT_NAMES {
+        write!(f, "<th class=\"number\">{name}</th>")?;
+    }
+    Ok(())
+}
 
 fn write_counts(counts: Counts, f: &mut Formatter<'_>) -> fmt::Result {
-    let Counts {
-        imports,
-        restrictions,
-        extensions,
-    } = counts;
-    for count in [imports, restrictions, extensions, counts.total()] {
+    for count in count_values(counts) {
         write!(f, "<td class=\"number count\">{count}</td>")?;
     }
     Ok(())
 }
 
-/// The class that a delivery's state is shown by.
-fn class(delivery: &Delivery) -> &'static str {
-    match delivery.state {
-        State::Stands => "stands",
-        State::Withdrawn { .. } => "withdrawn",
-        State::Refused { .. } => "refused",
-    }
-}
-
 fn write_deliveries(statement: &Statement, f: &mut Formatter<'_>) -> fmt::Result {
     write!(
         f,
-        "<h2>Deliveries</h2>\n<div class=\"scroll\"><table>\n<thead><tr><th class=\"number\">call</th><th class=\"number\">file</th>\
-        {COUNTS_HEADER}<th>state</th></tr></thead>\n<tbody>\n"
+        "<h2>Deliveries</h2>\n<div class=\"scroll\"><table>\n<thead><tr><th class=\"number\">call</th><th class=\"number\">file</th>"
     )?;
+    write_count_names(f)?;
+    write!(f, "<th>state</th></tr></thead>\n<tbody>\n")?;
     for delivery in &statement.deliveries {
         write!(
             f,
             "<tr class=\"{}\"><td class=\"number\">{}</td><td class=\"number\">{}</td>",
-            class(delivery),
+            delivery.state.word(),
             delivery.call,
             delivery.file
         )?;
@@ -141,8 +128,10 @@ fn write_deliveries(statement: &Statement, f: &mut Formatter<'_>) -> fmt::Result
 fn write_totals(statement: &Statement, f: &mut Formatter<'_>) -> fmt::Result {
     write!(
         f,
-        "<h2>Totals of what stands</h2>\n<div class=\"scroll\"><table class=\"totals\">\n<thead><tr><th>file</th>{COUNTS_HEADER}</tr></thead>\n<tbody>\n"
+        "<h2>Totals of what stands</h2>\n<div class=\"scroll\"><table class=\"totals\">\n<thead><tr><th>file</th>"
     )?;
+    write_count_names(f)?;
+    write!(f, "</tr></thead>\n<tbody>\n")?;
     for file in &statement.delivered {
         write!(f, "<tr><td>{file}</td>")?;
         write_counts(statement.total_of(*file), f)?;
@@ -167,7 +156,7 @@ fn write_entries(statement: &Statement, f: &mut Formatter<'_>) -> fmt::Result {
             f,
             "<section class=\"{}\">\n<h3>Call {}, file {} <span class=\"quiet\">{}</span></h3>\n<div class=\"scroll\"><table>\n\
             <thead><tr><th>what</th><th>element</th><th class=\"number\">number</th><th class=\"number\">files</th></tr></thead>\n<tbody>\n",
-            class(delivery),
+            delivery.state.word(),
             delivery.call,
             delivery.file,
             Escaped(&delivery.state.to_string())

@@ -214,6 +214,14 @@ impl Statement {
         merges && self.rollbacks.iter().all(|call| call.answer.is_ok())
     }
 
+    /// What it is a statement of.
+    fn heading(&self) -> String {
+        match self.source.as_str() {
+            "" => "Statement".into(),
+            source => format!("Statement of {source}"),
+        }
+    }
+
     fn standing(&self) -> impl Iterator<Item = &Delivery> {
         let stands = |delivery: &&Delivery| delivery.state == State::Stands;
         self.deliveries.iter().filter(stands)
@@ -306,17 +314,25 @@ impl fmt::Display for Kind {
 /// What became of it, in words.
 impl fmt::Display for State {
     fn fmt(&self, f: &mut fmt::Formatter<'_>) -> fmt::Result {
+        write!(f, "{}", self.word())?;
         match self {
-            State::Stands => write!(f, "stands"),
-            State::Withdrawn { call, mark } => {
-                write!(f, "withdrawn by call {call}: rollback to {mark}")
-            }
-            State::Refused { .. } => write!(f, "refused: {}", self.reason()),
+            State::Stands => Ok(()),
+            State::Withdrawn { call, mark } => write!(f, " by call {call}: rollback to {mark}"),
+            State::Refused { .. } => write!(f, ": {}", self.reason()),
         }
     }
 }
 
 impl State {
+    /// What became of it, in a word.
+    fn word(&self) -> &'static str {
+        match self {
+            State::Stands => "stands",
+            State::Withdrawn { .. } => "withdrawn",
+            State::Refused { .. } => "refused",
+        }
+    }
+
     /// Why it was refused, in words, with the path of the element; nothing where it was not.
     fn reason(&self) -> String {
         match self {
@@ -328,6 +344,14 @@ impl State {
             _ => String::new(),
         }
     }
+}
+
+/// The names of a delivery's counts, and the counts in the same order.
+const COUNT_NAMES: [&str; 4] = ["imported", "restricted", "extended", "sum"];
+
+fn count_values(counts: Counts) -> [u64; 4] {
+    let (imports, restrictions) = (counts.imports, counts.restrictions);
+    [imports, restrictions, counts.extensions, counts.total()]
 }
 
 /// The numbers of the files, parted by spaces.

@@ -2,18 +2,14 @@
 
 use std::fmt;
 
-use super::{file_list, Rollback, Statement};
-use crate::model::Counts;
+use super::{count_values, file_list, Rollback, Statement, COUNT_NAMES};
 
 /// Two spaces part the columns.
 const GAP: &str = "  ";
 
 impl fmt::Display for Statement {
     fn fmt(&self, f: &mut fmt::Formatter<'_>) -> fmt::Result {
-        match self.source.as_str() {
-            "" => writeln!(f, "Statement")?,
-            source => writeln!(f, "Statement of {source}")?,
-        }
+        writeln!(f, "{}", self.heading())?;
         write_deliveries(self, f)?;
         write_totals(self, f)?;
         write_entries(self, f)?;
@@ -26,46 +22,32 @@ impl fmt::Display for Statement {
     }
 }
 
-const COUNTS: [&str; 4] = ["imported", "restricted", "extended", "sum"];
-
-fn counts_fields(counts: Counts) -> [String; 4] {
-    let Counts {
-        imports,
-        restrictions,
-        extensions,
-    } = counts;
-    [imports, restrictions, extensions, counts.total()].map(|count| count.to_string())
-}
-
 fn write_deliveries(statement: &Statement, f: &mut fmt::Formatter<'_>) -> fmt::Result {
-    let mut rows = vec![row(["call", "file"], COUNTS, "state")];
+    let mut rows = vec![row(&["call", "file"], &COUNT_NAMES, &["state"])];
     for delivery in &statement.deliveries {
-        let numbers = [delivery.call, delivery.file.get()].map(|number| number.to_string());
-        let counts = counts_fields(delivery.counts);
-        rows.push(row(numbers, counts, delivery.state.to_string()));
+        let numbers = [delivery.call, delivery.file.get()];
+        let state = [delivery.state.to_string()];
+        rows.push(row(&numbers, &count_values(delivery.counts), &state));
     }
     writeln!(f, "\nDeliveries")?;
     write_columns(&rows, 6, f)
 }
 
-fn row<T: Into<String>>(first: [T; 2], counts: [T; 4], last: T) -> Vec<String> {
-    let fields = first.into_iter().chain(counts).chain([last]);
-    fields.map(Into::into).collect()
+fn row(first: &[impl ToString], counts: &[impl ToString], last: &[impl ToString]) -> Vec<String> {
+    let mut fields: Vec<String> = first.iter().map(ToString::to_string).collect();
+    fields.extend(counts.iter().map(ToString::to_string));
+    fields.extend(last.iter().map(ToString::to_string));
+    fields
 }
 
 fn write_totals(statement: &Statement, f: &mut fmt::Formatter<'_>) -> fmt::Result {
-    let row = |name: String, counts| -> Vec<String> {
-        [name].into_iter().chain(counts_fields(counts)).collect()
-    };
-    let mut rows = vec![["file"]
-        .iter()
-        .chain(&COUNTS)
-        .map(|name| name.to_string())
-        .collect()];
+    let none: [&str; 0] = [];
+    let mut rows = vec![row(&["file"], &COUNT_NAMES, &none)];
     for file in &statement.delivered {
-        rows.push(row(file.to_string(), statement.total_of(*file)));
+        let counts = count_values(statement.total_of(*file));
+        rows.push(row(&[file], &counts, &none));
     }
-    rows.push(row("all".into(), statement.total()));
+    rows.push(row(&["all"], &count_values(statement.total()), &none));
     writeln!(f, "\nTotals of what stands")?;
     write_columns(&rows, 5, f)
 }
