@@ -35,7 +35,7 @@ static void fail(const char *what, const char *why)
 static void must_accept(uint64_t code, const char *call)
 {
     if (code != ZAPELARITZ_ACCEPTED)
-        fail(call, "refused");
+        fail(call, zapelaritz_refusal_text(code));
 }
 
 static void *room_for(size_t count, size_t size)
@@ -62,26 +62,35 @@ static void read_deck(struct merger *m, const char *path)
 
 static void load(struct merger *m)
 {
+    uint64_t code;
     m->schema = room_for(zapelaritz_schema_size(), sizeof(uint64_t));
     m->elements = room_for(zapelaritz_elements_size(), sizeof(uint64_t));
     m->model = room_for(zapelaritz_model_size(), sizeof(uint64_t));
     m->log = room_for(zapelaritz_log_size(), sizeof(uint64_t));
-    if (zapelaritz_load(TABLES(m), ANSWER(m)) == ZAPELARITZ_ACCEPTED)
+    code = zapelaritz_load(TABLES(m), ANSWER(m));
+    if (code == ZAPELARITZ_ACCEPTED)
         return;
-    printf("deck,%" PRIu64 ",%" PRIu64 "\n", m->answer[0], m->answer[1]);
-    exit(1);
+    printf("deck,%" PRIu64 ",%" PRIu64 "\n", code, m->answer[1]);
+    fail("load", zapelaritz_refusal_text(code));
 }
 
-/* An element is given with refusals 6, 7 and 8 of a merge, a name with 7 alone. */
-static void print_refusal(uint64_t file, const uint64_t *answer)
+/* The code of a merge tells what its answer has: counts, an element and a name, an element, or nothing more. */
+static void print_answer(uint64_t file, uint64_t code, const uint64_t *answer)
 {
-    printf("refused,%" PRIu64 ",%" PRIu64, file, answer[0]);
-    if (answer[0] == ZAPELARITZ_REFUSAL_NOT_IN_VERSION)
-        printf(",%" PRIu64 ",%" PRIu64 "\n", answer[1], answer[2]);
-    else if (answer[0] == ZAPELARITZ_REFUSAL_UNMERGEABLE || answer[0] == ZAPELARITZ_REFUSAL_USED_TWICE)
-        printf(",%" PRIu64 ",-\n", answer[1]);
-    else
-        printf(",-,-\n");
+    switch (code) {
+    case ZAPELARITZ_ACCEPTED:
+        printf("merged,%" PRIu64 ",%" PRIu64 ",%" PRIu64 ",%" PRIu64 "\n", file, answer[0], answer[1], answer[2]);
+        break;
+    case ZAPELARITZ_REFUSAL_NOT_IN_VERSION:
+        printf("refused,%" PRIu64 ",%" PRIu64 ",%" PRIu64 ",%" PRIu64 "\n", file, code, answer[1], answer[2]);
+        break;
+    case ZAPELARITZ_REFUSAL_UNMERGEABLE:
+    case ZAPELARITZ_REFUSAL_USED_TWICE:
+        printf("refused,%" PRIu64 ",%" PRIu64 ",%" PRIu64 ",-\n", file, code, answer[1]);
+        break;
+    default:
+        printf("refused,%" PRIu64 ",%" PRIu64 ",-,-\n", file, code);
+    }
 }
 
 static void merge(struct merger *m, const char *word)
@@ -92,10 +101,7 @@ static void merge(struct merger *m, const char *word)
     file = strtoull(word, &end, 10);
     if (*word < '0' || '9' < *word || *end != '\0' || errno != 0)
         fail(word, "no file number");
-    if (zapelaritz_merge(TABLES(m), file, ANSWER(m)) == ZAPELARITZ_ACCEPTED)
-        printf("merged,%" PRIu64 ",%" PRIu64 ",%" PRIu64 ",%" PRIu64 "\n", file, m->answer[0], m->answer[1], m->answer[2]);
-    else
-        print_refusal(file, m->answer);
+    print_answer(file, zapelaritz_merge(TABLES(m), file, ANSWER(m)), m->answer);
 }
 
 static void print_model(struct merger *m)
@@ -116,6 +122,8 @@ int main(int argc, char **argv)
     int i;
     if (argc < 2)
         fail("usage", "withdraw DECK FILE...");
+    if (zapelaritz_version() != ZAPELARITZ_VERSION)
+        fail("library", "not of the header's version");
     read_deck(&m, argv[1]);
     load(&m);
     must_accept(zapelaritz_mark(TABLES(&m), ANSWER(&m)), "mark");

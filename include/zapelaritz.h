@@ -17,9 +17,13 @@
  * (0). The tables hold numbers and no pointers: they may be copied, moved and put back.
  *
  * What the tables may hold. Any numbers are safe. Load writes over them. Every other call tests its tables first and
- * refuses (0) where a size is wrong, a number is past its range or a rule is broken that load keeps. Do not write into
- * loaded tables: forged ones that pass the test get the answers that the rules give for them, and on some of them a merge
- * takes very long.
+ * refuses (0) where a size is wrong, a number is past its range or a rule is broken that load keeps.
+ *
+ * Forged tables. Do not write into loaded tables: forged ones that pass the test get the answers that the rules give for
+ * them. Printing takes time in proportion to `from` and the room, whatever the tables. After a load each element is reached
+ * at most once, so that a merge visits no more pairs than the deck has elements. A merge of forged tables whose lists share
+ * elements can visit each path from a root, and there is no useful bound: with 31 depths of 8 elements, each listing all 8
+ * of the next, it does not end in any time that one could wait.
  *
  * Threads. No function holds state. Calls on different slices may run at the same time, and so may calls that share slices
  * and only read them. A slice that one call writes must not be used by another call at the same time.
@@ -39,19 +43,24 @@
 extern "C" {
 #endif
 
-/* What a call returns. */
+/* The version of this header; zapelaritz_version is that of the library: 10000 * major + 100 * minor + patch. */
+#define ZAPELARITZ_VERSION 200
+
+/* What a call returns: this where it is accepted, else the refusal's number, which is below it. 0 is a refusal. */
 enum zapelaritz_code {
-    ZAPELARITZ_ACCEPTED = 0, /* done; the answer has the results */
-    ZAPELARITZ_REFUSED = 1,  /* refused; the answer has the refusal's number first */
-    ZAPELARITZ_NOT_MADE = 2  /* the lent answer has not three numbers: nothing was done and nothing written */
+    ZAPELARITZ_ACCEPTED = 255
 };
 
 /*
- * The refusals, the first number of a refused call's answer.
+ * The refusals: what a refused call returns, and the first number of its answer.
  *
  * Behind it: for 1 to 4 the line of the deck, from 1 (0: the deck as a whole); for 6, 8, 12 and 13 an element; for 7 an
  * element and a name. All other numbers of the answer are 0. So a 0 in the second place is element 0 for 6, 7, 8, 12 and
  * 13, and no element for the rest.
+ *
+ * The answer is a lent table too. Where it has not ZAPELARITZ_ANSWER_SIZE numbers, every call is refused (0), before
+ * anything else. Load then leaves the four tables and the answer zero to the lengths that were lent; every other call leaves
+ * every slice as it stood, the answer too.
  */
 enum zapelaritz_refusal {
     /* every call: a table of a wrong size; load apart: a number past its range, or a rule broken that load keeps */
@@ -87,9 +96,12 @@ enum zapelaritz_refusal {
 };
 
 /* The numbers of an answer. */
-#define ZAPELARITZ_ANSWER_SIZE 3
+#define ZAPELARITZ_ANSWER_SIZE 4
 
-/* ---- sizes */
+/* ---- version and sizes */
+
+/* ZAPELARITZ_VERSION, where header and library are of one version */
+uint64_t zapelaritz_version(void);
 
 /* The bytes of the longest deck that loads. A longer one may be lent; load refuses it (4, line 0). */
 size_t zapelaritz_deck_limit(void);
@@ -103,11 +115,15 @@ size_t zapelaritz_log_size(void);
 /* ZAPELARITZ_ANSWER_SIZE */
 size_t zapelaritz_answer_size(void);
 
-/* ---- calls on lent tables; each returns a zapelaritz_code */
+/* ---- calls on lent tables; each returns ZAPELARITZ_ACCEPTED or the refusal's number
+ *
+ * The answer of an accepted call has the results named below, that of a refused one its number, and then the line or the
+ * element and the name. Zeros stand behind them.
+ */
 
 /*
  * Loads a deck into the four tables; what they held is lost. The log is empty then, and every delivery waits.
- * Accepted: 0, 0, 0. Refused: 0 to 4, the line, 0; all four tables become zero to the lengths that were lent.
+ * Accepted: nothing. Refused: 0 to 4, line; all four tables become zero to the lengths that were lent.
  */
 uint64_t zapelaritz_load(
     const uint8_t *deck, size_t deck_length,
@@ -133,8 +149,8 @@ uint64_t zapelaritz_merge(
 /*
  * Takes back every merge since a mark; their deliveries wait again. A mark is 0, or what zapelaritz_mark answered behind
  * the last merge that is to stay.
- * Accepted: the entries taken off the log (the sum of the counts of the merges taken back), 0, 0. Refused: 0 or 14, 0, 0;
- * model and log stay as they stood.
+ * Accepted: the entries taken off the log (the sum of the counts of the merges taken back). Refused: 0 or 14; model and
+ * log stay as they stood.
  */
 uint64_t zapelaritz_rollback(
     const uint8_t *deck, size_t deck_length,
@@ -147,7 +163,7 @@ uint64_t zapelaritz_rollback(
 
 /*
  * The places in an element's content where a child of a name may be put, in a version.
- * Accepted: the first place, the last place, 0. Refused: 0, 7 or 11 to 13, element, name.
+ * Accepted: the first place, the last place. Refused: 0, 7 or 11 to 13, element, name.
  */
 uint64_t zapelaritz_range(
     const uint8_t *deck, size_t deck_length,
@@ -160,7 +176,7 @@ uint64_t zapelaritz_range(
 
 /*
  * The mark of now, which is the log's length.
- * Accepted: the mark, 0, 0. Refused: 0, 0, 0.
+ * Accepted: the mark. Refused: 0.
  */
 uint64_t zapelaritz_mark(
     const uint8_t *deck, size_t deck_length,
@@ -178,10 +194,32 @@ uint64_t zapelaritz_mark(
  */
 
 /*
- * The model's E and C lines. Returns a zapelaritz_code.
- * Accepted: the count of bytes written, 0, 0. Refused: 0, 0, 0, and nothing is written.
+ * What the tables say, each as the call of that name in a list of calls prints it (docs/DECK.md): the model's E and C lines;
+ * M, the model, and each delivery that waits, behind its B line; the log's length and its entries, oldest first. Each returns
+ * ZAPELARITZ_ACCEPTED or the refusal's number.
+ * Accepted: the count of bytes written. Refused: 0, and nothing is written.
  */
 uint64_t zapelaritz_print_model(
+    const uint8_t *deck, size_t deck_length,
+    const uint64_t *schema, size_t schema_length,
+    const uint64_t *elements, size_t elements_length,
+    const uint64_t *model, size_t model_length,
+    const uint64_t *log, size_t log_length,
+    size_t from,
+    uint8_t *out, size_t out_length,
+    uint64_t *answer, size_t answer_length);
+
+uint64_t zapelaritz_print_trees(
+    const uint8_t *deck, size_t deck_length,
+    const uint64_t *schema, size_t schema_length,
+    const uint64_t *elements, size_t elements_length,
+    const uint64_t *model, size_t model_length,
+    const uint64_t *log, size_t log_length,
+    size_t from,
+    uint8_t *out, size_t out_length,
+    uint64_t *answer, size_t answer_length);
+
+uint64_t zapelaritz_print_log(
     const uint8_t *deck, size_t deck_length,
     const uint64_t *schema, size_t schema_length,
     const uint64_t *elements, size_t elements_length,
@@ -203,6 +241,32 @@ size_t zapelaritz_print_calls(
     const uint8_t *calls, size_t calls_length,
     size_t from,
     uint8_t *out, size_t out_length);
+
+/* ---- words */
+
+/* One sentence for what a call returned. */
+static inline const char *zapelaritz_refusal_text(uint64_t number)
+{
+    switch (number) {
+    case ZAPELARITZ_REFUSAL_TABLES: return "a lent table has a wrong size, or holds what load would not leave";
+    case ZAPELARITZ_REFUSAL_FORM: return "a line of the deck has a wrong form";
+    case ZAPELARITZ_REFUSAL_SCHEMA_RULE: return "the deck breaks a rule of the schema";
+    case ZAPELARITZ_REFUSAL_TREE_RULE: return "the deck breaks a rule of the trees";
+    case ZAPELARITZ_REFUSAL_LIMIT: return "the deck is over a limit";
+    case ZAPELARITZ_REFUSAL_NOT_WAITING: return "no delivery of that file waits";
+    case ZAPELARITZ_REFUSAL_UNMERGEABLE: return "the delivery cannot be merged";
+    case ZAPELARITZ_REFUSAL_NOT_IN_VERSION: return "the name is not known in the version";
+    case ZAPELARITZ_REFUSAL_USED_TWICE: return "a delivered element would be used twice";
+    case ZAPELARITZ_REFUSAL_LOG_FULL: return "the log is full";
+    case ZAPELARITZ_REFUSAL_CONTENT_FULL: return "the content lists are full";
+    case ZAPELARITZ_REFUSAL_NO_SUCH_ELEMENT: return "there is no such element, or the version is over 31";
+    case ZAPELARITZ_REFUSAL_CHARACTERS_PARENT: return "the element is of characters and has no children";
+    case ZAPELARITZ_REFUSAL_NO_PLACE: return "there is no place for the name";
+    case ZAPELARITZ_REFUSAL_NO_MARK: return "the number is no mark";
+    case ZAPELARITZ_ACCEPTED: return "accepted";
+    default: return "not a refusal's number";
+    }
+}
 
 #ifdef __cplusplus
 }

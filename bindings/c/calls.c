@@ -4,7 +4,8 @@
  * docs/DECK.md, or follows from the rules by hand.
  *
  * After each call the test also looks at every slice: nothing is written that the call only reads, nothing behind a slice's
- * end, nothing by a call that was not made, and neither model nor log by a refused merge or rollback.
+ * end, nothing by a call that is lent an answer of a wrong size (load apart, which leaves all lent tables zero, the answer
+ * too), and neither model nor log by a refused merge or rollback.
  */
 #include <inttypes.h>
 #include <stdio.h>
@@ -72,21 +73,28 @@ static int check(int line, const char *what, int holds)
     return holds ? 1 : failed(line, what);
 }
 
-static void check_call(int line, const char *call, uint64_t code, uint64_t expected, uint64_t a, uint64_t b, uint64_t c)
+static void check_code(int line, const char *call, uint64_t code, uint64_t expected)
 {
-    int same = expected == ZAPELARITZ_NOT_MADE || (answer[0] == a && answer[1] == b && answer[2] == c);
-    if (!check(line, call, code == expected && same)) {
-        printf("    expected %" PRIu64 ": %" PRIu64 ", %" PRIu64 ", %" PRIu64 "\n", expected, a, b, c);
-        printf("    was      %" PRIu64 ": %" PRIu64 ", %" PRIu64 ", %" PRIu64 "\n", code, answer[0], answer[1], answer[2]);
-    }
+    if (!check(line, call, code == expected))
+        printf("    expected %" PRIu64 ", was %" PRIu64 "\n", expected, code);
     if (!check(line, call, spoiled == NULL))
         printf("    not as it should be afterwards: %s\n", spoiled);
 }
 
+/* The fourth number is 0 in every answer. */
+static void check_call(int line, const char *call, uint64_t code, uint64_t expected, uint64_t a, uint64_t b, uint64_t c)
+{
+    if (!check(line, call, answer[0] == a && answer[1] == b && answer[2] == c && answer[3] == 0)) {
+        printf("    expected %" PRIu64 ", %" PRIu64 ", %" PRIu64 ", 0\n", a, b, c);
+        printf("    was      %" PRIu64 ", %" PRIu64 ", %" PRIu64 ", %" PRIu64 "\n", answer[0], answer[1], answer[2], answer[3]);
+    }
+    check_code(line, call, code, expected);
+}
+
 #define CHECK(holds) check(__LINE__, #holds, holds)
 #define ACCEPTED(call, a, b, c) check_call(__LINE__, #call, call, ZAPELARITZ_ACCEPTED, a, b, c)
-#define REFUSED(call, a, b, c) check_call(__LINE__, #call, call, ZAPELARITZ_REFUSED, a, b, c)
-#define NOT_MADE(call) check_call(__LINE__, #call, call, ZAPELARITZ_NOT_MADE, 0, 0, 0)
+#define REFUSED(call, number, b, c) check_call(__LINE__, #call, call, number, number, b, c)
+#define WRONG_SIZE(call) check_code(__LINE__, #call, call, ZAPELARITZ_REFUSAL_TABLES)
 
 /* ---- the slices before and after a call */
 
@@ -125,9 +133,8 @@ static void texts_must_stand(void)
     must(memcmp(&list, &list_before, sizeof list) == 0, "list of calls");
 }
 
-static void answer_must_stand(uint64_t code)
+static void answer_must_stand(size_t from)
 {
-    size_t from = code == ZAPELARITZ_NOT_MADE ? 0 : ZAPELARITZ_ANSWER_SIZE;
     must(memcmp(answer + from, answer_before + from, (ANSWER_ROOM - from) * sizeof(uint64_t)) == 0, "answer");
 }
 
@@ -136,19 +143,33 @@ static void out_must_stand(size_t from)
     must(from <= out_length && memcmp(out + from, out_before + from, OUT_ROOM - from) == 0, "out");
 }
 
+static int answer_fits(void)
+{
+    return answer_length == ZAPELARITZ_ANSWER_SIZE;
+}
+
 static uint64_t after(uint64_t code, int written)
 {
     texts_must_stand();
     tables_must_stand(written);
-    answer_must_stand(code);
+    answer_must_stand(answer_fits() ? answer_length : 0);
     return code;
 }
 
-static int zero(int i)
+static int zero(const uint64_t *cells, size_t count)
 {
     size_t k;
-    for (k = 0; k < length[i]; k++)
-        if (tables.cells[i][k] != 0)
+    for (k = 0; k < count; k++)
+        if (cells[k] != 0)
+            return 0;
+    return 1;
+}
+
+static int zero_tables(void)
+{
+    int i;
+    for (i = 0; i < TABLES; i++)
+        if (!zero(tables.cells[i], length[i]))
             return 0;
     return 1;
 }
@@ -160,10 +181,13 @@ static uint64_t load(void)
     uint64_t code;
     before();
     code = zapelaritz_load(TEXT(deck), ALL_TABLES, ANSWER);
-    if (code == ZAPELARITZ_REFUSED)
-        must(zero(SCHEMA) && zero(ELEMENTS) && zero(MODEL) && zero(LOG), "zero tables");
+    must(code == ZAPELARITZ_ACCEPTED || zero_tables(), "zero tables");
+    must(answer_fits() || zero(answer, answer_length), "zero answer");
+    texts_must_stand();
+    tables_must_stand(SCHEMA);
+    answer_must_stand(answer_length);
     out_must_stand(0);
-    return after(code, code == ZAPELARITZ_NOT_MADE ? TABLES : SCHEMA);
+    return code;
 }
 
 static uint64_t merge(uint64_t file)
@@ -202,40 +226,55 @@ static uint64_t mark(void)
     return after(code, TABLES);
 }
 
-static uint64_t model(size_t from)
+static uint64_t after_print(uint64_t code)
 {
-    uint64_t code;
-    before();
-    code = zapelaritz_print_model(TEXT(deck), ALL_TABLES, from, OUT, ANSWER);
     out_must_stand(code == ZAPELARITZ_ACCEPTED ? answer[0] : 0);
     return after(code, TABLES);
 }
 
-/* The three texts, each by one function of the same form: the count of bytes written from `from` on. */
-
-static size_t print_model(size_t from)
+static uint64_t model(size_t from)
 {
-    return model(from) == ZAPELARITZ_ACCEPTED ? answer[0] : SIZE_MAX;
+    before();
+    return after_print(zapelaritz_print_model(TEXT(deck), ALL_TABLES, from, OUT, ANSWER));
+}
+
+static uint64_t trees(size_t from)
+{
+    before();
+    return after_print(zapelaritz_print_trees(TEXT(deck), ALL_TABLES, from, OUT, ANSWER));
+}
+
+static uint64_t entries(size_t from)
+{
+    before();
+    return after_print(zapelaritz_print_log(TEXT(deck), ALL_TABLES, from, OUT, ANSWER));
+}
+
+/* The five texts, each by one function of the same form: the count of bytes written from `from` on. */
+
+static size_t print_model(size_t from) { return model(from) == ZAPELARITZ_ACCEPTED ? answer[0] : SIZE_MAX; }
+static size_t print_trees(size_t from) { return trees(from) == ZAPELARITZ_ACCEPTED ? answer[0] : SIZE_MAX; }
+static size_t print_log(size_t from) { return entries(from) == ZAPELARITZ_ACCEPTED ? answer[0] : SIZE_MAX; }
+
+static size_t after_output(size_t count)
+{
+    out_must_stand(count);
+    texts_must_stand();
+    tables_must_stand(TABLES);
+    answer_must_stand(0);
+    return count;
 }
 
 static size_t print_output(size_t from)
 {
-    size_t count;
     before();
-    count = zapelaritz_print_output(TEXT(deck), from, OUT);
-    out_must_stand(count);
-    after(ZAPELARITZ_NOT_MADE, TABLES);
-    return count;
+    return after_output(zapelaritz_print_output(TEXT(deck), from, OUT));
 }
 
 static size_t print_calls(size_t from)
 {
-    size_t count;
     before();
-    count = zapelaritz_print_calls(TEXT(deck), TEXT(list), from, OUT);
-    out_must_stand(count);
-    after(ZAPELARITZ_NOT_MADE, TABLES);
-    return count;
+    return after_output(zapelaritz_print_calls(TEXT(deck), TEXT(list), from, OUT));
 }
 
 static int prints_by_parts(size_t (*print)(size_t), size_t part, const char *expected)
@@ -332,8 +371,14 @@ static int equal_tables(const struct tables *a, const struct tables *b)
     "log,8\nrestriction,1,0\nimport,8,0,5,0\nextension,0,1\nrestriction,3,0\nimport,14,0,10,0\n" \
     "import,13,1,11,0\nextension,1,2\nextension,0,2\n"
 
-/* The E and C lines behind the M of named.deck. */
+/* The E and C lines behind the M of named.deck, and its deliveries. */
 #define NAMED_DECK_MODEL "E,0,0,1\nE,1,3,0\nE,2,1,0\nC,3,s,engine\nE,1,3,0\nE,2,1,0\nC,3,s,doors\n"
+#define NAMED_1 "B,1\nE,0,0,0\nE,1,3,0\nE,2,1,0\nC,3,s,doors\nE,1,3,0\nE,2,1,0\nC,3,s,brakes\n"
+#define NAMED_2 \
+    "B,2\nE,0,0,0\nE,1,3,0\nE,2,1,0\nC,3,s,engine\nE,2,4,0\nC,3,u,7\nE,1,3,0\nE,2,1,0\nC,3,s,lights\n"
+#define PRINTED_1 "B,1\nE,0,0,0\nE,1,3,0\nC,2,s,q\nE,1,4,0\nC,2,u,7\n"
+/* p is restricted, q and the 7 are imported from the delivery's root, element 2, and the root gains file 1. */
+#define PRINTED_LOG "log,4\nrestriction,1,0\nimport,3,0,2,0\nimport,4,0,2,0\nextension,0,1\n"
 
 static struct text printed, named, definitions, withdraw;
 
@@ -341,12 +386,34 @@ static struct text printed, named, definitions, withdraw;
 
 static void sizes(void)
 {
+    CHECK(ZAPELARITZ_VERSION == 10000 * 0 + 100 * 2 + 0);
+    CHECK(zapelaritz_version() == ZAPELARITZ_VERSION);
     CHECK(zapelaritz_deck_limit() == DECK_LIMIT);
     CHECK(zapelaritz_schema_size() == right_length[SCHEMA]);
     CHECK(zapelaritz_elements_size() == right_length[ELEMENTS]);
     CHECK(zapelaritz_model_size() == right_length[MODEL]);
     CHECK(zapelaritz_log_size() == right_length[LOG]);
     CHECK(zapelaritz_answer_size() == ZAPELARITZ_ANSWER_SIZE);
+}
+
+/* What is no refusal's number has one text, which no refusal has. */
+static void refusal_texts(void)
+{
+    const uint64_t none[5] = { 15, 254, 256, past_32_bits, UINT64_MAX };
+    const char *other = zapelaritz_refusal_text(none[0]);
+    uint64_t i, k;
+    for (i = 0; i <= ZAPELARITZ_REFUSAL_NO_MARK; i++) {
+        CHECK(i < ZAPELARITZ_ACCEPTED);
+        CHECK(*zapelaritz_refusal_text(i) != '\0');
+        CHECK(strcmp(zapelaritz_refusal_text(i), other) != 0);
+        CHECK(strcmp(zapelaritz_refusal_text(i), zapelaritz_refusal_text(ZAPELARITZ_ACCEPTED)) != 0);
+        for (k = 0; k < i; k++)
+            CHECK(strcmp(zapelaritz_refusal_text(i), zapelaritz_refusal_text(k)) != 0);
+    }
+    for (k = 0; k < 5; k++)
+        CHECK(strcmp(zapelaritz_refusal_text(none[k]), other) == 0);
+    CHECK(strcmp(zapelaritz_refusal_text(ZAPELARITZ_ACCEPTED), "accepted") == 0);
+    CHECK(strcmp(zapelaritz_refusal_text(ZAPELARITZ_REFUSAL_LOG_FULL), "the log is full") == 0);
 }
 
 static void refused_loads(void)
@@ -387,10 +454,12 @@ static uint64_t merge_1(void) { return merge(1); }
 static uint64_t rollback_0(void) { return rollback(0); }
 static uint64_t range_0(void) { return range(0, 3, 2); }
 static uint64_t model_0(void) { return model(0); }
+static uint64_t trees_0(void) { return trees(0); }
+static uint64_t log_0(void) { return entries(0); }
 
 /* The calls on loaded tables. Each is accepted on those of named.deck. */
-enum { CALLS = 5 };
-static uint64_t (*const calls[CALLS])(void) = { merge_1, rollback_0, range_0, mark, model_0 };
+enum { CALLS = 7 };
+static uint64_t (*const calls[CALLS])(void) = { merge_1, rollback_0, range_0, mark, model_0, trees_0, log_0 };
 
 static void each_call_refuses_the_tables(void)
 {
@@ -422,7 +491,7 @@ static void no_slices(void)
     REFUSED(load(), ZAPELARITZ_REFUSAL_TABLES, 0, 0);
     each_call_refuses_the_tables();
     answer_length = 0;
-    NOT_MADE(load());
+    WRONG_SIZE(load());
     list = text_of("");
     CHECK(prints(print_output, "deck,3,0\n"));
     CHECK(prints(print_calls, "deck,3,0\n"));
@@ -431,20 +500,58 @@ static void no_slices(void)
     CHECK(print_calls(0) == 0 && spoiled == NULL);
 }
 
-static void wrong_answer_lengths(void)
+/* A bad deck and an answer of a wrong size: the model that was loaded before does not stay. */
+static void load_with_wrong_answer(void)
 {
-    const size_t wrong[4] = { 0, 1, ZAPELARITZ_ANSWER_SIZE - 1, ZAPELARITZ_ANSWER_SIZE + 1 };
-    int i, k;
-    for (k = 0; k < 4; k++) {
-        lend_loaded(named);
-        answer_length = wrong[k];
-        NOT_MADE(load());
-        for (i = 0; i < CALLS; i++)
-            NOT_MADE(calls[i]());
+    lend_loaded(named);
+    answer_length = 2;
+    deck = text_of("X\n");
+    WRONG_SIZE(load());
+    CHECK(zero_tables());
+    deck = named;
+    answer_length = ZAPELARITZ_ANSWER_SIZE;
+    REFUSED(merge(1), ZAPELARITZ_REFUSAL_TABLES, 0, 0);
+}
+
+static void answer_lengths(void)
+{
+    size_t lent;
+    int i;
+    for (lent = 0; lent <= 6; lent++) {
+        if (lent == ZAPELARITZ_ANSWER_SIZE)
+            continue;
+        for (i = 0; i < CALLS; i++) {
+            lend_loaded(named);
+            answer_length = lent;
+            WRONG_SIZE(calls[i]());
+        }
         length[LOG] = 0;
-        NOT_MADE(load());
-        NOT_MADE(merge(1));
+        WRONG_SIZE(merge(1));
+        WRONG_SIZE(load());
+        lend_loaded(named);
+        answer_length = lent;
+        WRONG_SIZE(load());
+        CHECK(zero_tables());
+        CHECK(zero(answer, lent));
     }
+    lend(named);
+    ACCEPTED(load(), 0, 0, 0);
+    ACCEPTED(merge(1), 1, 1, 1);
+    ACCEPTED(rollback(0), 3, 0, 0);
+    ACCEPTED(range(0, 3, 2), 0, 2, 0);
+    ACCEPTED(mark(), 0, 0, 0);
+    ACCEPTED(model(0), strlen(NAMED_DECK_MODEL), 0, 0);
+    ACCEPTED(trees(0), strlen("M\n" NAMED_DECK_MODEL NAMED_1 NAMED_2), 0, 0);
+    ACCEPTED(entries(0), strlen("log,0\n"), 0, 0);
+}
+
+static void no_room(void)
+{
+    lend_loaded(named);
+    out_length = 0;
+    ACCEPTED(model(0), 0, 0, 0);
+    ACCEPTED(trees(1), 0, 0, 0);
+    ACCEPTED(entries(SIZE_MAX), 0, 0, 0);
 }
 
 /* The last string of named.deck ends before its last LF. */
@@ -500,6 +607,10 @@ static void largest_numbers(void)
     REFUSED(range(UINT64_MAX, UINT64_MAX, UINT64_MAX), ZAPELARITZ_REFUSAL_NO_SUCH_ELEMENT, 0, 0);
     ACCEPTED(model(past_32_bits), 0, 0, 0);
     ACCEPTED(model(SIZE_MAX), 0, 0, 0);
+    ACCEPTED(trees(past_32_bits), 0, 0, 0);
+    ACCEPTED(trees(SIZE_MAX), 0, 0, 0);
+    ACCEPTED(entries(past_32_bits), 0, 0, 0);
+    ACCEPTED(entries(SIZE_MAX), 0, 0, 0);
     list = withdraw;
     CHECK(print_output(past_32_bits) == 0 && spoiled == NULL);
     CHECK(print_output(SIZE_MAX) == 0 && spoiled == NULL);
@@ -532,11 +643,15 @@ static void printed_example(void)
     loaded = tables;
     ACCEPTED(mark(), 0, 0, 0);
     CHECK(prints(print_model, PRINTED_DECK_MODEL));
+    CHECK(prints(print_trees, "M\n" PRINTED_DECK_MODEL PRINTED_1));
+    CHECK(prints(print_log, "log,0\n"));
     CHECK(prints(print_output, "merged,1,2,1,1\n" PRINTED_MODEL));
     ACCEPTED(merge(1), 2, 1, 1);
     merged = tables;
     ACCEPTED(mark(), 4, 0, 0);
     CHECK(prints(print_model, PRINTED_MODEL));
+    CHECK(prints(print_trees, "M\n" PRINTED_MODEL));
+    CHECK(prints(print_log, PRINTED_LOG));
     REFUSED(merge(1), ZAPELARITZ_REFUSAL_NOT_WAITING, 0, 0);
     REFUSED(rollback(3), ZAPELARITZ_REFUSAL_NO_MARK, 0, 0);
     REFUSED(rollback(5), ZAPELARITZ_REFUSAL_NO_MARK, 0, 0);
@@ -554,12 +669,15 @@ static void withdrawn(void)
     lend_loaded(named);
     loaded = tables;
     CHECK(prints(print_model, NAMED_DECK_MODEL));
+    CHECK(prints(print_trees, "M\n" NAMED_DECK_MODEL NAMED_1 NAMED_2));
     ACCEPTED(merge(1), 1, 1, 1);
     first = tables;
     ACCEPTED(mark(), 3, 0, 0);
     ACCEPTED(merge(2), 2, 1, 2);
     ACCEPTED(mark(), 8, 0, 0);
     CHECK(prints(print_model, NAMED_MODEL));
+    CHECK(prints(print_trees, "M\n" NAMED_MODEL));
+    CHECK(prints(print_log, WITHDRAWN_LOG));
     ACCEPTED(rollback(3), 5, 0, 0);
     CHECK(equal_tables(&tables, &first));
     ACCEPTED(merge(2), 2, 1, 2);
@@ -568,6 +686,7 @@ static void withdrawn(void)
     ACCEPTED(merge(2), 2, 1, 1);
     ACCEPTED(mark(), 4, 0, 0);
     CHECK(prints(print_model, WITHDRAWN_MODEL));
+    CHECK(prints(print_trees, "M\n" WITHDRAWN_MODEL NAMED_1));
 }
 
 static void printed_texts(void)
@@ -716,11 +835,14 @@ int main(int argc, char **argv)
     definitions = read_text(argv[3]);
     withdraw = read_text(argv[4]);
     sizes();
+    refusal_texts();
     refused_loads();
     longest_deck();
     wrong_table_lengths();
     no_slices();
-    wrong_answer_lengths();
+    answer_lengths();
+    load_with_wrong_answer();
+    no_room();
     other_decks();
     forged_tables();
     largest_numbers();

@@ -7,22 +7,28 @@ use merge_log::refusals::Optional;
 use merge_log::refusals::Refusal;
 use merge_log::refusals::refusal_fields;
 use state_test::state::lent_tables_pass;
+use tables::cells::put2;
 use tables::log::log_length;
 ghost use mathlib.Core.Path.{_≡_};
 ghost use Rattle.merge_log.specs.Answers.{refusalIs};
 ghost use Rattle.merge.specs.Calls.{rangeAnswerIs, mergeAnswerIs, rollbackAnswerIs};
 ghost use Rattle.merge_log.specs.Refusals.{optionalIs};
-ghost use Rattle.answer_numbers.specs.Numbers.{numbersIs, accept, refuse, orZero, refusalNumbers, loadNumbers, mergeNumbers, rangeNumbers, rollbackNumbers, markNumbers};
+ghost use Rattle.answer_numbers.specs.Numbers.{numbered, numbersIs, byAnswer, refusedBy0, accept, refuse, orZero, refusalNumbers, loadNumbers, mergeNumbers, rangeNumbers, rollbackNumbers, markNumbers};
 
-pub const ACCEPTED: u64 = 0;
+pub const ANSWER_SIZE: usize = 4;
 
-pub const REFUSED: u64 = 1;
+// The code of an accepted call; that of a refused one is the refusal's number.
+pub const ACCEPTED: u64 = 255;
+
+// The code where the lent answer, a table, has a wrong size.
+pub const WRONG_SIZE: u64 = 0;
 
 pub struct Numbers {
     pub code: u64,
     pub first: u64,
     pub second: u64,
     pub third: u64,
+    pub fourth: u64,
 }
 
 fn or_zero(n: Optional) -> u64
@@ -34,26 +40,40 @@ fn or_zero(n: Optional) -> u64
     }
 }
 
-pub fn accepted(first: u64, second: u64, third: u64) -> Numbers
-    ensures { λ r. ⌜ numbersIs r ≡ accept first second third ⌝ }
+pub fn accepted(first: u64, second: u64, third: u64, fourth: u64) -> Numbers
+    ensures { λ r. ⌜ numbersIs r ≡ accept first second third fourth ⌝ }
 {
     Numbers {
         code: ACCEPTED,
         first,
         second,
         third,
+        fourth,
     }
 }
 
-pub fn refused(first: u64, second: u64, third: u64) -> Numbers
-    ensures { λ r. ⌜ numbersIs r ≡ refuse first second third ⌝ }
+pub fn refused(number: u64, second: u64, third: u64) -> Numbers
+    ensures { λ r. ⌜ numbersIs r ≡ refuse number second third ⌝ }
 {
     Numbers {
-        code: REFUSED,
-        first,
+        code: number,
+        first: number,
         second,
         third,
+        fourth: 0,
     }
+}
+
+// The numbers into a lent answer; the code.
+pub fn write_numbers(answer: &mut [u64], n: Numbers) -> u64
+    ensures { λ r. ⌜ numbered r (now (answer .exit)) ≡ byAnswer (now (answer .entry)) (numbersIs n) (refusedBy0 (now (answer .entry))) ⌝ }
+{
+    if answer.len() != ANSWER_SIZE {
+        return WRONG_SIZE;
+    }
+    put2(answer, 0, n.first, n.second);
+    put2(answer, 2, n.third, n.fourth);
+    n.code
 }
 
 fn refusal_numbers(x: Refusal) -> Numbers
@@ -69,7 +89,7 @@ pub fn load_numbers(a: Answer) -> Numbers
     ensures { λ r. ⌜ numbersIs r ≡ loadNumbers a ⌝ }
 {
     match a {
-        Answer::Loaded => accepted(0, 0, 0),
+        Answer::Loaded => accepted(0, 0, 0, 0),
         Answer::Refused(number, line) => refused(number, line, 0),
     }
 }
@@ -82,6 +102,7 @@ pub fn merge_numbers(a: MergeAnswer) -> Numbers
             c.imports as u64,
             c.restrictions as u64,
             c.extensions as u64,
+            0,
         ),
         MergeAnswer::Refused(x) => refusal_numbers(x),
         MergeAnswer::BadTables => refused(0, 0, 0),
@@ -92,7 +113,7 @@ pub fn range_numbers(a: RangeAnswer) -> Numbers
     ensures { λ r. ⌜ numbersIs r ≡ rangeNumbers (rangeAnswerIs a) ⌝ }
 {
     match a {
-        RangeAnswer::Places(first, last) => accepted(first as u64, last as u64, 0),
+        RangeAnswer::Places(first, last) => accepted(first as u64, last as u64, 0, 0),
         RangeAnswer::Refused(x) => refusal_numbers(x),
         RangeAnswer::BadTables => refused(0, 0, 0),
     }
@@ -102,7 +123,7 @@ pub fn rollback_numbers(a: RollbackAnswer) -> Numbers
     ensures { λ r. ⌜ numbersIs r ≡ rollbackNumbers (rollbackAnswerIs a) ⌝ }
 {
     match a {
-        RollbackAnswer::TakenOff(n) => accepted(n as u64, 0, 0),
+        RollbackAnswer::TakenOff(n) => accepted(n as u64, 0, 0, 0),
         RollbackAnswer::Refused(x) => refusal_numbers(x),
         RollbackAnswer::BadTables => refused(0, 0, 0),
     }
@@ -121,5 +142,5 @@ pub fn mark_numbers(
     if !lent_tables_pass(deck, schema, elements, model, log) {
         return refused(0, 0, 0);
     }
-    accepted(log_length(log) as u64, 0, 0)
+    accepted(log_length(log) as u64, 0, 0, 0)
 }

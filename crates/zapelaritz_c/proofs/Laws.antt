@@ -1,1 +1,2 @@
 pub mod NumberedCalls
+pub mod PrintedTexts

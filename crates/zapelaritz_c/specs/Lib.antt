@@ -1,1 +1,3 @@
 pub mod NumberedCalls
+pub mod PrintedTexts
+pub mod Version

@@ -1,20 +1,42 @@
 // Load, merge, range and rollback: the answer's code is the result, its numbers are written into the lent answer.
-use crate::sizes::ANSWER_SIZE;
-use crate::sizes::NOT_MADE;
+use answer_numbers::numbers::ANSWER_SIZE;
+use answer_numbers::numbers::WRONG_SIZE;
 use answer_numbers::numbers::load_numbers;
 use answer_numbers::numbers::mark_numbers;
 use answer_numbers::numbers::merge_numbers;
 use answer_numbers::numbers::range_numbers;
 use answer_numbers::numbers::rollback_numbers;
+use answer_numbers::numbers::write_numbers;
 use load::load::load;
 use merge::calls::merge;
 use merge::calls::range;
 use merge::calls::rollback;
-use tables::cells::put3;
+use tables::model::clear;
 ghost use mathlib.Core.Path.{_≡_};
-ghost use Rattle.load.specs.LoadCall.{tablesOf};
+ghost use Rattle.load.specs.LoadCall.{zeros, tablesOf};
 ghost use Rattle.answer_numbers.specs.Numbers.{numbered};
 ghost use Rattle.zapelaritz_c.specs.NumberedCalls.{numberedLoad, numberedMerge, numberedRange, numberedRollback, numberedMark};
+
+// All lent tables zero, the answer too.
+fn clear_lent(
+    schema: &mut [u64],
+    elements: &mut [u64],
+    model: &mut [u64],
+    log: &mut [u64],
+    answer: &mut [u64],
+)
+    ensures { λ _. ⌜ now (schema .exit) ≡ zeros (now (schema .entry)) ⌝ }
+    ensures { λ _. ⌜ now (elements .exit) ≡ zeros (now (elements .entry)) ⌝ }
+    ensures { λ _. ⌜ now (model .exit) ≡ zeros (now (model .entry)) ⌝ }
+    ensures { λ _. ⌜ now (log .exit) ≡ zeros (now (log .entry)) ⌝ }
+    ensures { λ _. ⌜ now (answer .exit) ≡ zeros (now (answer .entry)) ⌝ }
+{
+    clear(schema);
+    clear(elements);
+    clear(model);
+    clear(log);
+    clear(answer);
+}
 
 #[no_mangle]
 pub extern "C" fn zapelaritz_load(
@@ -28,11 +50,11 @@ pub extern "C" fn zapelaritz_load(
     ensures { λ r. ⌜ record { answer = numbered r (now (answer .exit)); tables = tablesOf (now (schema .exit)) (now (elements .exit)) (now (model .exit)) (now (log .exit)) } ≡ numberedLoad (now (deck .entry)) (tablesOf (now (schema .entry)) (now (elements .entry)) (now (model .entry)) (now (log .entry))) (now (answer .entry)) ⌝ }
 {
     if answer.len() != ANSWER_SIZE {
-        return NOT_MADE;
+        clear_lent(schema, elements, model, log, answer);
+        return WRONG_SIZE;
     }
     let n = load_numbers(load(deck, schema, elements, model, log));
-    put3(answer, 0, n.first, n.second, n.third);
-    n.code
+    write_numbers(answer, n)
 }
 
 #[no_mangle]
@@ -48,11 +70,10 @@ pub extern "C" fn zapelaritz_merge(
     ensures { λ r. ⌜ record { answer = numbered r (now (answer .exit)); model = now (model .exit); log = now (log .exit) } ≡ numberedMerge (now (deck .entry)) (now (schema .entry)) (now (elements .entry)) (now (model .entry)) (now (log .entry)) file (now (answer .entry)) ⌝ }
 {
     if answer.len() != ANSWER_SIZE {
-        return NOT_MADE;
+        return WRONG_SIZE;
     }
     let n = merge_numbers(merge(deck, schema, elements, model, log, file));
-    put3(answer, 0, n.first, n.second, n.third);
-    n.code
+    write_numbers(answer, n)
 }
 
 #[no_mangle]
@@ -68,11 +89,10 @@ pub extern "C" fn zapelaritz_rollback(
     ensures { λ r. ⌜ record { answer = numbered r (now (answer .exit)); model = now (model .exit); log = now (log .exit) } ≡ numberedRollback (now (deck .entry)) (now (schema .entry)) (now (elements .entry)) (now (model .entry)) (now (log .entry)) mark (now (answer .entry)) ⌝ }
 {
     if answer.len() != ANSWER_SIZE {
-        return NOT_MADE;
+        return WRONG_SIZE;
     }
     let n = rollback_numbers(rollback(deck, schema, elements, model, log, mark));
-    put3(answer, 0, n.first, n.second, n.third);
-    n.code
+    write_numbers(answer, n)
 }
 
 #[no_mangle]
@@ -89,12 +109,8 @@ pub extern "C" fn zapelaritz_range(
 ) -> u64
     ensures { λ r. ⌜ numbered r (now (answer .exit)) ≡ numberedRange (now (deck .entry)) (now (schema .entry)) (now (elements .entry)) (now (model .entry)) (now (log .entry)) element name version (now (answer .entry)) ⌝ }
 {
-    if answer.len() != ANSWER_SIZE {
-        return NOT_MADE;
-    }
     let n = range_numbers(range(deck, schema, elements, model, log, element, name, version));
-    put3(answer, 0, n.first, n.second, n.third);
-    n.code
+    write_numbers(answer, n)
 }
 
 // The mark of now: the log's length.
@@ -109,10 +125,6 @@ pub extern "C" fn zapelaritz_mark(
 ) -> u64
     ensures { λ r. ⌜ numbered r (now (answer .exit)) ≡ numberedMark (now (deck .entry)) (now (schema .entry)) (now (elements .entry)) (now (model .entry)) (now (log .entry)) (now (answer .entry)) ⌝ }
 {
-    if answer.len() != ANSWER_SIZE {
-        return NOT_MADE;
-    }
     let n = mark_numbers(deck, schema, elements, model, log);
-    put3(answer, 0, n.first, n.second, n.third);
-    n.code
+    write_numbers(answer, n)
 }

@@ -1,4 +1,5 @@
-// How many numbers the lent slices have.
+// How many numbers the lent slices have, and the library's version.
+use answer_numbers::numbers::ANSWER_SIZE;
 use tables::elements::ELEMENTS_SIZE;
 use tables::limits::DECK_LIMIT;
 use tables::log::LOG_SIZE;
@@ -10,12 +11,11 @@ ghost use Rattle.tables.specs.Limits.{deckLimit};
 ghost use Rattle.tables.specs.LogTable.{logSize};
 ghost use Rattle.tables.specs.ModelTable.{modelSize};
 ghost use Rattle.tables.specs.SchemaTable.{schemaSize};
-ghost use Rattle.zapelaritz_c.specs.NumberedCalls.{answerSize};
+ghost use Rattle.answer_numbers.specs.Numbers.{answerSize};
+ghost use Rattle.zapelaritz_c.specs.Version.{version};
 
-pub const ANSWER_SIZE: usize = 3;
-
-// The code where the lent answer has another size.
-pub const NOT_MADE: u64 = 2;
+// 0.2.0
+const VERSION: u64 = 200;
 
 // The bytes of the longest deck that loads.
 #[no_mangle]
@@ -58,4 +58,11 @@ pub extern "C" fn zapelaritz_answer_size() -> usize
     ensures { λ r. ⌜ r ≡ answerSize ⌝ }
 {
     ANSWER_SIZE
+}
+
+#[no_mangle]
+pub extern "C" fn zapelaritz_version() -> u64
+    ensures { λ r. ⌜ r ≡ version ⌝ }
+{
+    VERSION
 }

@@ -18,7 +18,7 @@ log-length-requires c κs = passed-tables _ _ _ _ _ (passed (c .before .lent-tab
 returns-2 : tie.Need-returns-2
 returns-2 c =
     c .accepted .ensures
-    ∙ ap (λ (n : ℕ). accept n 0 0) (c .before .log-length .ensures)
+    ∙ ap (λ (n : ℕ). accept n 0 0 0) (c .before .log-length .ensures)
     ∙ mark-good _ _ _ _ _ (passed (c .before .before .before .lent-tables-pass .ensures) (c .before .before .if1 .left))
 
 pub mark-numbers-spec : {M : Type 1} → statement M
