@@ -6,6 +6,7 @@ use std::collections::BTreeMap;
 use std::fs;
 
 use common::{read, repository};
+use zapelaritz::{ElementId, LoadError, Name, Refusal};
 
 /// Parameters in order, each as its name and type, and the result's type; types as Rust writes them.
 #[derive(Debug, PartialEq)]
@@ -264,4 +265,47 @@ fn codes() {
     ] {
         assert!(header.contains(constant), "{constant}");
     }
+}
+
+/// The refusals of the header have the numbers of those in Rust.
+#[test]
+fn refusals() {
+    let header = header_text();
+    let (_, list) = header.split_once("enum zapelaritz_refusal {").unwrap();
+    let (list, _) = list.split_once('}').unwrap();
+    let declared: Vec<(&str, u64)> = parts(list)
+        .map(|part| part.split_once(" = ").unwrap())
+        .map(|(name, number)| (name, number.parse().unwrap()))
+        .collect();
+    let (line, element, name) = (1, ElementId(1), Name(1));
+    let numbers = [
+        ("TABLES", Refusal::BadTables.number()),
+        ("FORM", LoadError::Form { line }.number()),
+        ("SCHEMA_RULE", LoadError::SchemaRule { line }.number()),
+        ("TREE_RULE", LoadError::TreeRule { line }.number()),
+        ("LIMIT", LoadError::Limit { line }.number()),
+        ("NOT_WAITING", Refusal::NotWaiting.number()),
+        ("UNMERGEABLE", Refusal::Unmergeable { element }.number()),
+        (
+            "NOT_IN_VERSION",
+            Refusal::NotInVersion { element, name }.number(),
+        ),
+        ("USED_TWICE", Refusal::UsedTwice { element }.number()),
+        ("LOG_FULL", Refusal::LogFull.number()),
+        ("CONTENT_FULL", Refusal::ContentFull.number()),
+        ("NO_SUCH_ELEMENT", Refusal::NoSuchElement.number()),
+        (
+            "CHARACTERS_PARENT",
+            Refusal::CharactersParent { element }.number(),
+        ),
+        ("NO_PLACE", Refusal::NoPlace { element }.number()),
+        ("NO_MARK", Refusal::NoMark.number()),
+    ];
+    let expected = numbers.map(|(name, number)| (format!("ZAPELARITZ_REFUSAL_{name}"), number));
+    let declared: Vec<_> = declared
+        .iter()
+        .map(|(name, n)| (name.to_string(), *n))
+        .collect();
+    assert_eq!(declared, expected);
+    assert_eq!(LoadError::BadTables.number(), Refusal::BadTables.number());
 }

@@ -311,3 +311,13 @@ fn a_model_may_move_between_threads() {
     send_and_sync(&model);
     send_and_sync(&model.elements());
 }
+
+#[test]
+fn refusals_are_errors() {
+    fn boxed(error: impl std::error::Error + Send + Sync + 'static) -> String {
+        Box::<dyn std::error::Error + Send + Sync>::from(error).to_string()
+    }
+    assert_eq!(boxed(Refusal::NotWaiting), "no tree of that file waits");
+    let error = LoadError::Form { line: 7 };
+    assert_eq!(boxed(error), "line 7: the form of a line is wrong");
+}
