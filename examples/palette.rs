@@ -7,10 +7,21 @@
 use std::env;
 use std::error::Error;
 use std::fs;
+use std::process::ExitCode;
 
 use zapelaritz::{Element, FileId, Model, Version};
 
-fn main() -> Result<(), Box<dyn Error>> {
+fn main() -> ExitCode {
+    match run() {
+        Ok(()) => ExitCode::SUCCESS,
+        Err(error) => {
+            eprintln!("palette: {error}");
+            ExitCode::FAILURE
+        }
+    }
+}
+
+fn run() -> Result<(), Box<dyn Error>> {
     let arguments: Vec<String> = env::args().skip(1).collect();
     let [deck, path, version] = arguments.as_slice() else {
         return Err("usage: palette DECK PATH VERSION".into());
