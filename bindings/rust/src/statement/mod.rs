@@ -42,6 +42,8 @@ pub struct Statement {
     /// The files of the deck's deliveries, in the order of the deck.
     delivered: Vec<FileId>,
     deliveries: Vec<Delivery>,
+    /// The places among the deliveries of those that stand, the latest last: at most one for each file.
+    standing: Vec<usize>,
     rollbacks: Vec<Rollback>,
 }
 
@@ -166,6 +168,7 @@ impl Statement {
             model,
             delivered,
             deliveries: Vec::new(),
+            standing: Vec::new(),
             rollbacks: Vec::new(),
         };
         for (number, call) in (1..).zip(calls) {
@@ -223,8 +226,8 @@ impl Statement {
     }
 
     fn standing(&self) -> impl Iterator<Item = &Delivery> {
-        let stands = |delivery: &&Delivery| delivery.state == State::Stands;
-        self.deliveries.iter().filter(stands)
+        let places = self.standing.iter();
+        places.filter_map(|place| self.deliveries.get(*place))
     }
 
     /// The files whose deliveries wait behind the last call.
@@ -236,7 +239,10 @@ impl Statement {
     fn merge(&mut self, call: u64, file: FileId) {
         let mark = self.model.mark();
         let (state, counts) = match self.model.merge(file) {
-            Ok(counts) => (State::Stands, counts),
+            Ok(counts) => {
+                self.standing.push(self.deliveries.len());
+                (State::Stands, counts)
+            }
             Err(refusal) => {
                 let element = refusal.element().and_then(|id| self.model.element(id));
                 let path = element.map(Element::path);
@@ -258,13 +264,11 @@ impl Statement {
     /// The latest of the standing merges are withdrawn as long as the counts together exceed the mark.
     fn roll_back(&mut self, call: u64, mark: Mark) {
         let answer = self.model.rollback(mark);
-        if answer.is_ok() {
-            let mut left = self.total().total();
-            for delivery in self.deliveries.iter_mut().rev() {
-                if delivery.state == State::Stands && left > mark.get() {
-                    left = left.saturating_sub(delivery.counts.total());
-                    delivery.state = State::Withdrawn { call, mark };
-                }
+        while answer.is_ok() && self.total().total() > mark.get() {
+            let latest = self.standing.pop();
+            match latest.and_then(|place| self.deliveries.get_mut(place)) {
+                Some(delivery) => delivery.state = State::Withdrawn { call, mark },
+                None => break,
             }
         }
         self.rollbacks.push(Rollback { call, mark, answer });
@@ -373,12 +377,7 @@ mod tests {
         let changes: [fn(&mut Statement); 4] = [
             |it| it.deliveries[1].counts.imports += 1,
             |it| it.deliveries[1].file = FileId(1),
-            |it| {
-                it.deliveries[0].state = State::Withdrawn {
-                    call: 3,
-                    mark: Mark(0),
-                }
-            },
+            |it| it.standing = vec![1],
             |it| it.model = Model::load(it.model.deck()).unwrap(),
         ];
         for change in changes {
