@@ -172,12 +172,13 @@ impl Statement {
             rollbacks: Vec::new(),
         };
         for (number, call) in (1..).zip(calls) {
+            let before = statement.total().total();
             match call {
                 Call::Merge(file) => statement.merge(number, file),
                 Call::Rollback(mark) => statement.roll_back(number, mark),
                 Call::PassedOver => {}
             }
-            if !statement.agrees_with_the_log() {
+            if !statement.agrees_with_the_log() || !statement.took_off(number, before) {
                 return Err(StatementError::Sums { call: number });
             }
         }
@@ -272,6 +273,17 @@ impl Statement {
             }
         }
         self.rollbacks.push(Rollback { call, mark, answer });
+    }
+
+    /// A call that was an accepted rollback reports what the deliveries that it withdrew were counted for.
+    fn took_off(&self, call: u64, before: u64) -> bool {
+        match self.rollbacks.last() {
+            Some(rollback) if rollback.call == call => match rollback.answer {
+                Ok(entries) => before.checked_sub(self.total().total()) == Some(entries),
+                Err(_) => true,
+            },
+            _ => true,
+        }
     }
 
     /// The standing deliveries are the merges that the log has, with the same counts, and their sum is the log's length.
@@ -380,6 +392,10 @@ mod tests {
             |it| it.standing = vec![1],
             |it| it.model = Model::load(it.model.deck()).unwrap(),
         ];
+        assert!(statement.took_off(2, 2));
+        let rolled_back = Statement::of(deck, Some(b"merge,1\nmerge,2\nrollback,1\n")).unwrap();
+        assert!(rolled_back.took_off(3, 2));
+        assert!(!rolled_back.took_off(3, 3));
         for change in changes {
             let mut changed = statement.clone();
             change(&mut changed);
