@@ -277,13 +277,9 @@ impl Statement {
 
     /// A call that was an accepted rollback reports what the deliveries that it withdrew were counted for.
     fn took_off(&self, call: u64, before: u64) -> bool {
-        match self.rollbacks.last() {
-            Some(rollback) if rollback.call == call => match rollback.answer {
-                Ok(entries) => before.checked_sub(self.total().total()) == Some(entries),
-                Err(_) => true,
-            },
-            _ => true,
-        }
+        let rollback = self.rollbacks.last().filter(|it| it.call == call);
+        let entries = rollback.and_then(|it| it.answer.ok());
+        entries.is_none_or(|entries| self.total().total().saturating_add(entries) == before)
     }
 
     /// The standing deliveries are the merges that the log has, with the same counts, and their sum is the log's length.
