@@ -5,7 +5,7 @@
  * function is proved to meet its contract for any bytes and any numbers. docs/DECK.md describes decks, calls and refusals.
  *
  * Link with target/staticlib/libzapelaritz_c.a, which `rt staticlib zapelaritz_c` proves and writes, on x86-64 alone. Of
- * the C library it needs memcpy and memset.
+ * the C library it needs memcpy, memmove and memset.
  *
  * Slices. Each slice passes as a pointer and then a length: of deck, calls and out in bytes, of the tables and the answer
  * in numbers. The pointer may be null where the length is 0. A slice that passes as a pointer to const is only read. A
