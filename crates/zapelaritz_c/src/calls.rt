@@ -47,7 +47,11 @@ pub extern "C" fn zapelaritz_load(
     log: &mut [u64],
     answer: &mut [u64],
 ) -> u64
-    ensures { λ r. ⌜ record { answer = numbered r (now (answer .exit)); tables = tablesOf (now (schema .exit)) (now (elements .exit)) (now (model .exit)) (now (log .exit)) } ≡ numberedLoad (now (deck .entry)) (tablesOf (now (schema .entry)) (now (elements .entry)) (now (model .entry)) (now (log .entry))) (now (answer .entry)) ⌝ }
+    ensures { λ r. ⌜
+        record { answer = numbered r (now (answer .exit)); tables = tablesOf (now (schema .exit)) (now (elements .exit)) (now (model .exit)) (now (log .exit)) }
+        ≡ numberedLoad (now (deck .entry)) (tablesOf (now (schema .entry)) (now (elements .entry)) (now (model .entry)) (now (log .entry)))
+        (now (answer .entry))
+        ⌝ }
 {
     if answer.len() != ANSWER_SIZE {
         clear_lent(schema, elements, model, log, answer);
@@ -67,7 +71,11 @@ pub extern "C" fn zapelaritz_merge(
     file: u64,
     answer: &mut [u64],
 ) -> u64
-    ensures { λ r. ⌜ record { answer = numbered r (now (answer .exit)); model = now (model .exit); log = now (log .exit) } ≡ numberedMerge (now (deck .entry)) (now (schema .entry)) (now (elements .entry)) (now (model .entry)) (now (log .entry)) file (now (answer .entry)) ⌝ }
+    ensures { λ r. ⌜
+        record { answer = numbered r (now (answer .exit)); model = now (model .exit); log = now (log .exit) }
+        ≡ numberedMerge (now (deck .entry)) (now (schema .entry)) (now (elements .entry)) (now (model .entry)) (now (log .entry))
+        file (now (answer .entry))
+        ⌝ }
 {
     if answer.len() != ANSWER_SIZE {
         return WRONG_SIZE;
@@ -86,7 +94,11 @@ pub extern "C" fn zapelaritz_rollback(
     mark: u64,
     answer: &mut [u64],
 ) -> u64
-    ensures { λ r. ⌜ record { answer = numbered r (now (answer .exit)); model = now (model .exit); log = now (log .exit) } ≡ numberedRollback (now (deck .entry)) (now (schema .entry)) (now (elements .entry)) (now (model .entry)) (now (log .entry)) mark (now (answer .entry)) ⌝ }
+    ensures { λ r. ⌜
+        record { answer = numbered r (now (answer .exit)); model = now (model .exit); log = now (log .exit) }
+        ≡ numberedRollback (now (deck .entry)) (now (schema .entry)) (now (elements .entry)) (now (model .entry)) (now (log .entry))
+        mark (now (answer .entry))
+        ⌝ }
 {
     if answer.len() != ANSWER_SIZE {
         return WRONG_SIZE;
@@ -107,7 +119,11 @@ pub extern "C" fn zapelaritz_range(
     version: u64,
     answer: &mut [u64],
 ) -> u64
-    ensures { λ r. ⌜ numbered r (now (answer .exit)) ≡ numberedRange (now (deck .entry)) (now (schema .entry)) (now (elements .entry)) (now (model .entry)) (now (log .entry)) element name version (now (answer .entry)) ⌝ }
+    ensures { λ r. ⌜
+        numbered r (now (answer .exit))
+        ≡ numberedRange (now (deck .entry)) (now (schema .entry)) (now (elements .entry)) (now (model .entry)) (now (log .entry))
+        element name version (now (answer .entry))
+        ⌝ }
 {
     let n = range_numbers(range(deck, schema, elements, model, log, element, name, version));
     write_numbers(answer, n)
@@ -123,7 +139,11 @@ pub extern "C" fn zapelaritz_mark(
     log: &[u64],
     answer: &mut [u64],
 ) -> u64
-    ensures { λ r. ⌜ numbered r (now (answer .exit)) ≡ numberedMark (now (deck .entry)) (now (schema .entry)) (now (elements .entry)) (now (model .entry)) (now (log .entry)) (now (answer .entry)) ⌝ }
+    ensures { λ r. ⌜
+        numbered r (now (answer .exit))
+        ≡ numberedMark (now (deck .entry)) (now (schema .entry)) (now (elements .entry)) (now (model .entry)) (now (log .entry))
+        (now (answer .entry))
+        ⌝ }
 {
     let n = mark_numbers(deck, schema, elements, model, log);
     write_numbers(answer, n)

@@ -42,7 +42,11 @@ fn listing_numbers(
     from: usize,
     out: &mut [u8],
 ) -> Numbers
-    ensures { λ r. ⌜ record { answer = numbersIs r; buffer = now (out .exit) } ≡ printedText (listingIs l) (now (deck .entry)) (now (schema .entry)) (now (elements .entry)) (now (model .entry)) (now (log .entry)) from (now (out .entry)) ⌝ }
+    ensures { λ r. ⌜
+        record { answer = numbersIs r; buffer = now (out .exit) }
+        ≡ printedText (listingIs l) (now (deck .entry)) (now (schema .entry)) (now (elements .entry)) (now (model .entry)) (now (log .entry))
+        from (now (out .entry))
+        ⌝ }
 {
     if !lent_tables_pass(deck, schema, elements, model, log) {
         return refused(0, 0, 0);
@@ -72,7 +76,11 @@ fn print_listing(
     out: &mut [u8],
     answer: &mut [u64],
 ) -> u64
-    ensures { λ r. ⌜ record { answer = numbered r (now (answer .exit)); buffer = now (out .exit) } ≡ numberedText (listingIs l) (now (deck .entry)) (now (schema .entry)) (now (elements .entry)) (now (model .entry)) (now (log .entry)) from (now (out .entry)) (now (answer .entry)) ⌝ }
+    ensures { λ r. ⌜
+        record { answer = numbered r (now (answer .exit)); buffer = now (out .exit) }
+        ≡ numberedText (listingIs l) (now (deck .entry)) (now (schema .entry)) (now (elements .entry)) (now (model .entry)) (now (log .entry))
+        from (now (out .entry)) (now (answer .entry))
+        ⌝ }
 {
     if answer.len() != ANSWER_SIZE {
         return WRONG_SIZE;
@@ -93,7 +101,11 @@ pub extern "C" fn zapelaritz_print_model(
     out: &mut [u8],
     answer: &mut [u64],
 ) -> u64
-    ensures { λ r. ⌜ record { answer = numbered r (now (answer .exit)); buffer = now (out .exit) } ≡ numberedText modelText (now (deck .entry)) (now (schema .entry)) (now (elements .entry)) (now (model .entry)) (now (log .entry)) from (now (out .entry)) (now (answer .entry)) ⌝ }
+    ensures { λ r. ⌜
+        record { answer = numbered r (now (answer .exit)); buffer = now (out .exit) }
+        ≡ numberedText modelText (now (deck .entry)) (now (schema .entry)) (now (elements .entry)) (now (model .entry)) (now (log .entry))
+        from (now (out .entry)) (now (answer .entry))
+        ⌝ }
 {
     print_listing(
         Listing::Model,
@@ -120,7 +132,11 @@ pub extern "C" fn zapelaritz_print_trees(
     out: &mut [u8],
     answer: &mut [u64],
 ) -> u64
-    ensures { λ r. ⌜ record { answer = numbered r (now (answer .exit)); buffer = now (out .exit) } ≡ numberedText treesText (now (deck .entry)) (now (schema .entry)) (now (elements .entry)) (now (model .entry)) (now (log .entry)) from (now (out .entry)) (now (answer .entry)) ⌝ }
+    ensures { λ r. ⌜
+        record { answer = numbered r (now (answer .exit)); buffer = now (out .exit) }
+        ≡ numberedText treesText (now (deck .entry)) (now (schema .entry)) (now (elements .entry)) (now (model .entry)) (now (log .entry))
+        from (now (out .entry)) (now (answer .entry))
+        ⌝ }
 {
     print_listing(
         Listing::Trees,
@@ -147,7 +163,11 @@ pub extern "C" fn zapelaritz_print_log(
     out: &mut [u8],
     answer: &mut [u64],
 ) -> u64
-    ensures { λ r. ⌜ record { answer = numbered r (now (answer .exit)); buffer = now (out .exit) } ≡ numberedText logText (now (deck .entry)) (now (schema .entry)) (now (elements .entry)) (now (model .entry)) (now (log .entry)) from (now (out .entry)) (now (answer .entry)) ⌝ }
+    ensures { λ r. ⌜
+        record { answer = numbered r (now (answer .exit)); buffer = now (out .exit) }
+        ≡ numberedText logText (now (deck .entry)) (now (schema .entry)) (now (elements .entry)) (now (model .entry)) (now (log .entry))
+        from (now (out .entry)) (now (answer .entry))
+        ⌝ }
 {
     print_listing(
         Listing::Log,
@@ -178,7 +198,10 @@ pub extern "C" fn zapelaritz_print_calls(
     from: usize,
     out: &mut [u8],
 ) -> usize
-    ensures { λ r. ⌜ record { count = r; buffer = now (out .exit) } ≡ printFrom (callsOutput (now (deck .entry)) (now (calls .entry))) from (now (out .entry)) ⌝ }
+    ensures { λ r. ⌜
+        record { count = r; buffer = now (out .exit) }
+        ≡ printFrom (callsOutput (now (deck .entry)) (now (calls .entry))) from (now (out .entry))
+        ⌝ }
 {
     print_calls(deck, calls, from, out)
 }
