@@ -20,7 +20,7 @@ pub const ACCEPTED: u64 = 255;
 // The code where the lent answer, a table, has a wrong size.
 pub const WRONG_SIZE: u64 = 0;
 
-#[derive(Drop)]
+#[derive(Clone, Copy)]
 pub struct Numbers {
     pub code: u64,
     pub first: u64,

@@ -14,7 +14,7 @@ use tables::path::Path;
 // The largest number of 64 bits.
 pub const WORD_LIMIT: u64 = 0xffff_ffff_ffff_ffff;
 
-#[derive(Drop)]
+#[derive(Clone, Copy)]
 pub enum Num {
     Number(u64),
     Bad,
@@ -104,7 +104,7 @@ pub fn find_byte(s: &[u8], separator: u8, at: usize, end: usize) -> usize
     i
 }
 
-#[derive(Drop)]
+#[derive(Clone, Copy)]
 pub enum PathField {
     Parts(Path),
     Bad,
@@ -165,7 +165,7 @@ fn all_printable(s: &[u8]) -> bool
 }
 
 // Kind and value: 0 an enum number, 1 a string (its place * STRING_LIMIT + its length), 2 a whole number, 3 a float's bits.
-#[derive(Drop)]
+#[derive(Clone, Copy)]
 pub enum TextField {
     Text(u64, u64),
     Bad,

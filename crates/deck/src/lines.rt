@@ -35,7 +35,7 @@ pub fn line_end(deck: &[u8], at: usize) -> usize
 }
 
 // The places of a line's fields, as far as 8: no kind of line has more than 7.
-#[derive(Drop)]
+#[derive(Clone, Copy)]
 pub struct Fields {
     pub count: usize,
     pub starts: [usize; 8],
@@ -72,7 +72,7 @@ pub fn split(deck: &[u8], start: usize, end: usize) -> Fields
 }
 
 // Two places in the deck.
-#[derive(Drop)]
+#[derive(Clone, Copy)]
 pub struct Span {
     pub start: usize,
     pub end: usize,
@@ -145,7 +145,7 @@ fn text_at(deck: &[u8], f: Fields) -> TextField
 }
 
 // A T line: mode and named as their numbers.
-#[derive(Drop)]
+#[derive(Clone, Copy)]
 pub struct TypeCells {
     pub ty: TypeNumber,
     pub mode: u64,
@@ -154,7 +154,7 @@ pub struct TypeCells {
 }
 
 // A G line.
-#[derive(Drop)]
+#[derive(Clone, Copy)]
 pub struct GroupCells {
     pub ty: TypeNumber,
     pub path: Path,
@@ -162,7 +162,7 @@ pub struct GroupCells {
 }
 
 // An S line: mult as its number.
-#[derive(Drop)]
+#[derive(Clone, Copy)]
 pub struct RowCells {
     pub ty: TypeNumber,
     pub path: Path,
@@ -173,14 +173,14 @@ pub struct RowCells {
 }
 
 // An F line.
-#[derive(Drop)]
+#[derive(Clone, Copy)]
 pub struct FileCells {
     pub file: FileNumber,
     pub version: u64,
 }
 
 // An E line.
-#[derive(Drop)]
+#[derive(Clone, Copy)]
 pub struct ElementCells {
     pub depth: u64,
     pub name: Name,
@@ -188,14 +188,14 @@ pub struct ElementCells {
 }
 
 // A C line: kind and value as a table holds them.
-#[derive(Drop)]
+#[derive(Clone, Copy)]
 pub struct TextCells {
     pub depth: u64,
     pub kind: u64,
     pub value: u64,
 }
 
-#[derive(Drop)]
+#[derive(Clone, Copy)]
 pub enum Line {
     T(TypeCells),
     G(GroupCells),

@@ -5,21 +5,21 @@ ghost use Rattle.deck.specs.Answers.{EndReads, NextReads};
 
 use crate::lines::{Line, line_end, read_line};
 
-#[derive(Drop)]
+#[derive(Clone, Copy)]
 pub struct LineReader<'a> {
     pub deck: &'a [u8],
     pub at: usize,
 }
 
 // The place of a line's LF; bytes without LF, the last ones.
-#[derive(Drop)]
+#[derive(Clone, Copy)]
 pub enum LineEnd {
     At(usize),
     Missing,
 }
 
 // A line with the byte behind its LF; bytes without LF, the last ones.
-#[derive(Drop)]
+#[derive(Clone, Copy)]
 pub enum NextLine {
     Whole(Line, usize),
     Open,

@@ -1,6 +1,7 @@
 // Runs each case that data/list names, and compares what the program prints with the case's answer. A line of the list is a case's name, and
 // behind a space the name of the case whose deck it takes where it has none of its own. The case NAME has the files NAME.deck, NAME.calls where
 // calls are made, and NAME.out. docs/WORKING.md says what is in which folder.
+#![tactic(auto)]
 use deck::fields::find_byte;
 use deck::lines::line_end;
 use streams::answers::{held, read_file, word};

@@ -1,5 +1,6 @@
 // Runs the scripts that data/list names and holds what each prints to the file of its answers; steps.rt has their language. They put numbers
 // into the tables that no load and no call would, and show what tests and calls say of them. Machine words, floats and bytes come first.
+#![tactic(auto)]
 mod lent;
 mod script;
 mod state;

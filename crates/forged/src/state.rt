@@ -6,7 +6,7 @@ use tables::model::MODEL_SIZE;
 use tables::schema::SCHEMA_SIZE;
 
 // The cells that each table is lent with, the bytes of the deck, the bytes printed, and whether the step was none.
-#[derive(Drop)]
+#[derive(Clone, Copy)]
 pub struct State {
     pub schema: usize,
     pub elements: usize,

@@ -1,2 +1,3 @@
 // The import of elements.
+#![tactic(auto)]
 pub mod import;

@@ -1,2 +1,3 @@
 // The insert range of a content list.
+#![tactic(auto)]
 pub mod range;

@@ -19,7 +19,7 @@ use tables::path::Order;
 use tables::schema::{row_mult, row_name, row_path, type_mode};
 
 // The first and last place; no row of the name in the version; a conflict.
-#[derive(Drop)]
+#[derive(Clone, Copy)]
 pub enum Range {
     Places(usize, usize),
     NoRow,
@@ -27,14 +27,14 @@ pub enum Range {
 }
 
 // The first and last place so far.
-#[derive(Drop)]
+#[derive(Clone, Copy)]
 pub struct Bounds {
     pub first: usize,
     pub last: usize,
 }
 
 // What a content item does to the bounds.
-#[derive(Drop)]
+#[derive(Clone, Copy)]
 pub enum Move {
     Stop,
     To(Bounds),
@@ -80,7 +80,7 @@ fn move_by(mode: u64, order: Order, mult: u64, first: usize, index: usize) -> Mo
 }
 
 // How the elements of a name stand to the new one: no row of the name; else the common group's mode, and the new path's order against theirs.
-#[derive(Drop)]
+#[derive(Clone, Copy)]
 pub enum Against {
     NoRow,
     Row(u64, Order),
@@ -154,7 +154,7 @@ fn read_item(a: Item, against: Against, mult: u64, index: usize, bounds: &mut Bo
 }
 
 // An item's move, and the bounds behind it.
-#[derive(Drop)]
+#[derive(Clone, Copy)]
 pub struct Moved {
     pub answer: Move,
     pub bounds: Bounds,

@@ -1,2 +1,3 @@
 // Level and Pairs on the lent tables.
+#![tactic(auto)]
 pub mod level;

@@ -21,7 +21,7 @@ use tables::log::LOG_SIZE;
 use tables::model::{MODEL_SIZE, clear};
 use tables::schema::SCHEMA_SIZE;
 
-#[derive(Drop)]
+#[derive(Clone, Copy)]
 pub enum Answer {
     Loaded,
     Refused(u64, u64),

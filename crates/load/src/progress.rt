@@ -9,7 +9,7 @@ pub const OPEN_LIMIT: usize = DEPTH_LIMIT as usize + 1;
 
 // latest: the latest kind's number; seen: there is an M line; due: the latest M or B has no root yet; depth: how many elements are open; above: the
 // open element of each depth.
-#[derive(Drop)]
+#[derive(Clone, Copy)]
 pub struct Progress {
     pub latest: u64,
     pub seen: bool,
@@ -18,13 +18,13 @@ pub struct Progress {
     pub above: [usize; OPEN_LIMIT],
 }
 
-#[derive(Drop)]
+#[derive(Clone, Copy)]
 pub enum Verdict {
     Taken,
     Refused(u64),
 }
 
-#[derive(Drop)]
+#[derive(Clone, Copy)]
 pub struct Step {
     pub verdict: Verdict,
     pub progress: Progress,

@@ -1,5 +1,6 @@
 // Loads each deck that its arguments name, and prints how often it was loaded: once, or as often as the latest number among the
 // arguments says. Time is taken from outside.
+#![tactic(auto)]
 ghost use Rattle.std.specs.Prelude.{◌≤◌};
 
 use deck::fields::{Num, number};

@@ -25,7 +25,7 @@ use tables::numbers::{Element, FileNumber, Name};
 use tables::schema::type_mode;
 
 // The first and last place; a refusal; refusal 0.
-#[derive(Drop)]
+#[derive(Clone, Copy)]
 pub enum RangeAnswer {
     Places(usize, usize),
     Refused(Refusal),
@@ -77,7 +77,7 @@ pub fn range(
 }
 
 // The three counts; a refusal; refusal 0.
-#[derive(Drop)]
+#[derive(Clone, Copy)]
 pub enum MergeAnswer {
     Merged(Counts),
     Refused(Refusal),
@@ -85,7 +85,7 @@ pub enum MergeAnswer {
 }
 
 // The number of entries taken off; a refusal; refusal 0.
-#[derive(Drop)]
+#[derive(Clone, Copy)]
 pub enum RollbackAnswer {
     TakenOff(usize),
     Refused(Refusal),

@@ -7,7 +7,7 @@ ghost use Rattle.tables.specs.Limits.{log_limit};
 
 use tables::log::{Entry, entry_at, log_length};
 
-#[derive(Drop)]
+#[derive(Clone, Copy)]
 pub struct Counts {
     pub imports: usize,
     pub restrictions: usize,

@@ -24,7 +24,7 @@ use tables::model::set_of;
 use tables::numbers::{Element, FileNumber};
 
 // The root of a file's tree.
-#[derive(Drop)]
+#[derive(Clone, Copy)]
 pub enum Waiting {
     Root(Element),
     Missing,

@@ -2,6 +2,7 @@
 // the answer and how often the merge was accepted. The number before the latest is the file; both are 1 at first. The deck is loaded once, and model and
 // log are put back before each merge, so that a file that does not wait measures this and the test of the tables alone. Time is taken from
 // outside.
+#![tactic(auto)]
 ghost use Rattle.std.specs.Prelude.{◌≡◌, ◌≤◌, length};
 
 use deck::fields::{Num, number};
@@ -15,7 +16,7 @@ use tables::model::MODEL_SIZE;
 use tables::schema::SCHEMA_SIZE;
 
 // Which file is merged, and how often.
-#[derive(Drop)]
+#[derive(Clone, Copy)]
 struct Work {
     file: u64,
     times: u64,

@@ -120,7 +120,7 @@ fn find_place(model: &[u64], p: Element, e: Element, once: bool) -> Found
 }
 
 // Items that are to leave the list of p: k of them, the first at place i. What a merge imported one behind the other leaves at once.
-#[derive(Drop)]
+#[derive(Clone, Copy)]
 pub struct Run {
     pub p: Element,
     pub i: usize,

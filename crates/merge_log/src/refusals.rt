@@ -7,7 +7,7 @@ ghost use Rattle.merge_rules.specs.Refusals.{refusal_fields};
 
 use tables::numbers::{Element, Name};
 
-#[derive(Drop)]
+#[derive(Clone, Copy)]
 pub enum Refusal {
     NotWaiting,
     Unmergeable(Element),
@@ -22,20 +22,20 @@ pub enum Refusal {
 }
 
 // A conflict has the element whose list it arose in.
-#[derive(Drop)]
+#[derive(Clone, Copy)]
 pub enum Outcome {
     Done,
     Conflict(Element),
     Refused(Refusal),
 }
 
-#[derive(Drop)]
+#[derive(Clone, Copy)]
 pub enum Optional {
     Missing,
     Given(u64),
 }
 
-#[derive(Drop)]
+#[derive(Clone, Copy)]
 pub struct RefusalFields {
     pub number: u64,
     pub element: Optional,

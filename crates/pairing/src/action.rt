@@ -22,7 +22,7 @@ use tables::schema::row_path;
 use tables::text::same_text;
 
 // Both cursors; A with a B sibling; A only; B only; refusal 6 with the A parent.
-#[derive(Drop)]
+#[derive(Clone, Copy)]
 pub enum Action {
     MergeEqual,
     MergeUnequal(Element),
@@ -32,7 +32,7 @@ pub enum Action {
 }
 
 // What the cursor children alone decide, or that a B sibling is to be sought.
-#[derive(Drop)]
+#[derive(Clone, Copy)]
 pub enum Decision {
     Act(Action),
     Search,

@@ -18,13 +18,13 @@ use tables::schema::type_named;
 use tables::text::{Place, Text, text_of};
 
 // An item name or a definition: a string of the deck.
-#[derive(Drop)]
+#[derive(Clone, Copy)]
 pub enum Key {
     At(Place),
     Missing,
 }
 
-#[derive(Drop)]
+#[derive(Clone, Copy)]
 pub enum Child {
     Of(Element),
     Missing,

@@ -16,7 +16,7 @@ const IMPORTED: u8 = 2;
 const PAIRED: u8 = 4;
 
 // So many rows of A and of the B-only list; refusal 8 with the B child; refusal 6.
-#[derive(Drop)]
+#[derive(Clone, Copy)]
 pub enum Planned {
     Rows(usize, usize),
     UsedTwice(Element),
@@ -24,7 +24,7 @@ pub enum Planned {
 }
 
 // How many rows A has, and where the numbers of B's children start and end.
-#[derive(Drop)]
+#[derive(Clone, Copy)]
 pub struct Sides {
     pub rows: usize,
     pub start: usize,
@@ -32,7 +32,7 @@ pub struct Sides {
 }
 
 // The cursor children's indices, and how many children are in the B-only list.
-#[derive(Drop)]
+#[derive(Clone, Copy)]
 pub struct Cursors {
     pub a: usize,
     pub b: usize,

@@ -15,7 +15,7 @@ use tables::numbers::{Element, Name};
 use tables::text::same_string;
 
 // Where the bytes of a sibling's key start, if its name, and the key's kind and size, are those sought.
-#[derive(Drop)]
+#[derive(Clone, Copy)]
 enum Candidate {
     From(usize),
     Skip,

@@ -22,7 +22,7 @@ use tables::model::list_length;
 use tables::numbers::{Element, TypeNumber};
 
 // The action of one step, and whether the marks of B's children are now written.
-#[derive(Drop)]
+#[derive(Clone, Copy)]
 struct Next {
     act: Action,
     marked: bool,

@@ -1,2 +1,3 @@
 // What becomes of a pair: the extension, or the fallback.
+#![tactic(auto)]
 pub mod settle;

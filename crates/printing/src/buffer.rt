@@ -4,7 +4,7 @@ ghost use Rattle.merge_rules.specs.Program.{digit_byte, digits_before};
 ghost use Rattle.printing.specs.Buffers.{buffer_is, is_full, Appends};
 
 // How many bytes of the text are still to be passed over, and the count of bytes written from the buffer's start.
-#[derive(Drop)]
+#[derive(Clone, Copy)]
 pub struct Written {
     pub skip: usize,
     pub count: usize,

@@ -11,7 +11,7 @@ ghost use Rattle.requests.specs.Requests.{request_is};
 use deck::fields::{Num, WORD_LIMIT};
 use deck::lines::{Fields, number_at, places, split};
 
-#[derive(Drop)]
+#[derive(Clone, Copy)]
 pub enum Request {
     Merge(u64),
     Rollback(u64),

@@ -13,7 +13,7 @@ use tables::path::Path;
 use tables::schema::{group_count, group_mode, row_count, type_mode, type_split};
 
 // The place of the entry found.
-#[derive(Drop)]
+#[derive(Clone, Copy)]
 pub enum Found {
     At(usize),
     Missing,

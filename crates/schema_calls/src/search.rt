@@ -13,7 +13,7 @@ use tables::path::Path;
 use tables::schema::{group_path, group_type, row_mask, row_name, row_path, row_type};
 
 // What is sought in a type.
-#[derive(Drop)]
+#[derive(Clone, Copy)]
 pub enum Sought {
     // The row of a name whose mask meets the mask.
     Row(TypeNumber, Name, u64),

@@ -30,7 +30,7 @@ pub const BEFORE: usize = KEPT + CELLS;
 pub const ALL_CELLS: usize = BEFORE + CELLS;
 
 // Where an area begins, the cells from a row to the next, where its table ends, and whether the indexes are of its rows.
-#[derive(Drop)]
+#[derive(Clone, Copy)]
 pub struct Area {
     pub at: usize,
     pub width: usize,

@@ -43,7 +43,7 @@ fn set(cells: &mut [u64], i: usize, value: u64) {
 }
 
 // Where a cell lies in an area.
-#[derive(Drop)]
+#[derive(Clone, Copy)]
 struct Place {
     inside: bool,
     row: u64,

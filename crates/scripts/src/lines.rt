@@ -39,7 +39,7 @@ pub const ROLLBACK: u64 = 13;
 pub const RANGE: u64 = 14;
 
 // A step and its numbers, in the order of its fields.
-#[derive(Drop)]
+#[derive(Clone, Copy)]
 pub struct Line {
     pub step: u64,
     pub x: u64,

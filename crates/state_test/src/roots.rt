@@ -53,7 +53,7 @@ pub fn roots_valid(elements: &[u64]) -> bool
 }
 
 // Whether all that was asked is valid, and the row found last.
-#[derive(Drop)]
+#[derive(Clone, Copy)]
 pub struct Checked {
     pub all: bool,
     pub row: usize,

@@ -42,7 +42,7 @@ pub fn read_file(name: &[u8], ending: &[u8], buf: &mut [u8]) -> Input
 }
 
 // The first place where two texts differ, or where one ends: its line's number, and where that line begins.
-#[derive(Drop)]
+#[derive(Clone, Copy)]
 struct Difference {
     at: usize,
     line: u64,

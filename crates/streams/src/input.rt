@@ -7,7 +7,7 @@ use crate::buffer::MEGABYTE;
 pub const CALLS_LIMIT: usize = MEGABYTE - 1;
 
 // How many bytes stand at the buffer's start, and whether no read failed.
-#[derive(Drop)]
+#[derive(Clone, Copy)]
 pub struct Input {
     pub count: usize,
     pub whole: bool,

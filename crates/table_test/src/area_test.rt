@@ -12,7 +12,7 @@ use tables::log::ENTRY_WIDTH;
 use tables::schema::{FILE_WIDTH, GROUP_WIDTH, ROW_WIDTH, TYPE_WIDTH};
 
 // What the rows of an area are, with the count that their numbers are held to: of types, the deck's bytes, or elements.
-#[derive(Drop)]
+#[derive(Clone, Copy)]
 pub enum Area {
     Types,
     Groups,

@@ -9,7 +9,7 @@ ghost use Rattle.tables.specs.SetCells.{set_is, set_width, set_cells, cells_set}
 use crate::limits::FILE_LIMIT;
 use crate::numbers::FileNumber;
 
-#[derive(Drop)]
+#[derive(Clone, Copy)]
 pub struct FileSet(u64);
 
 // Cells of a set in a table.

@@ -15,7 +15,7 @@ pub const BUCKETS: usize = 512;
 pub const INDEX_SIZE: usize = BUCKETS + 512;
 
 // Groups by path, rows by name, rows by path.
-#[derive(Drop)]
+#[derive(Clone, Copy)]
 pub enum Index {
     Groups,
     Names,

@@ -24,7 +24,7 @@ pub const ENTRIES_AT: usize = 1;
 
 pub const LOG_SIZE: usize = ENTRIES_AT + LOG_LIMIT * ENTRY_WIDTH;
 
-#[derive(Drop)]
+#[derive(Clone, Copy)]
 pub enum Entry {
     // The element, its new parent, its old parent and set.
     Import(Element, Element, Parent, FileSet),
@@ -83,7 +83,7 @@ pub fn entry_at(log: &[u64], i: usize) -> Entry
 }
 
 // An entry's cells, the set as one.
-#[derive(Drop)]
+#[derive(Clone, Copy)]
 struct EntryCells {
     kind: u64,
     element: u64,

@@ -11,14 +11,14 @@ use crate::file_set::{FileSet, SET_WIDTH, read_set, store_set};
 use crate::limits::{ELEMENT_LIMIT, ITEM_LIMIT};
 use crate::numbers::Element;
 
-#[derive(Drop)]
+#[derive(Clone, Copy)]
 pub enum Parent {
     Of(Element),
     Missing,
 }
 
 // An entry of a content list: an element, or a text by its number.
-#[derive(Drop)]
+#[derive(Clone, Copy)]
 pub enum Item {
     Child(Element),
     Text(usize),

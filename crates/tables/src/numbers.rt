@@ -1,16 +1,16 @@
 // Numbers that are never taken for one another.
 
 // An element, numbered from 0 in deck order.
-#[derive(Drop)]
+#[derive(Clone, Copy)]
 pub struct Element(pub usize);
 
-#[derive(Drop)]
+#[derive(Clone, Copy)]
 pub struct Name(pub u64);
 
 // A type, numbered from 0 in deck order.
-#[derive(Drop)]
+#[derive(Clone, Copy)]
 pub struct TypeNumber(pub usize);
 
 // A file, numbered from 0.
-#[derive(Drop)]
+#[derive(Clone, Copy)]
 pub struct FileNumber(pub u64);

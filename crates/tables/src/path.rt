@@ -6,10 +6,10 @@ ghost use Rattle.tables.specs.Paths.{path_order, same_path, shared_beginning, ce
 
 use crate::limits::PATH_LIMIT;
 
-#[derive(Drop)]
+#[derive(Clone, Copy)]
 pub struct Path(pub u64, pub u64, pub u64, pub u64);
 
-#[derive(Drop)]
+#[derive(Clone, Copy)]
 pub enum Order {
     Less,
     Equal,

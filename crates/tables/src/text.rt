@@ -9,13 +9,13 @@ ghost use Rattle.tables.specs.Texts.{text_from, value_of, place_in, text_in, byt
 use crate::limits::STRING_LIMIT;
 
 // A string of the deck: its first byte's place, and its length.
-#[derive(Drop)]
+#[derive(Clone, Copy)]
 pub struct Place {
     pub start: usize,
     pub size: usize,
 }
 
-#[derive(Drop)]
+#[derive(Clone, Copy)]
 pub enum Text {
     Number(u64),
     Str(Place),

@@ -2,6 +2,7 @@
 // model; with CALLS, makes the calls of that file, one to a line, and prints what each answers.
 //
 // What is printed is proved, in `output`.
+#![tactic(auto)]
 use streams::buffer::{deck_buffer, megabyte};
 use streams::input::{CALLS_LIMIT, read_all};
 use streams::parts::print_all;

@@ -13,7 +13,7 @@ use printing::buffer::Written;
 use printing::trees::{append_model, append_trees};
 use state_test::state::lent_tables_pass;
 
-#[derive(Drop)]
+#[derive(Clone, Copy)]
 pub enum Listing {
     Model,
     Trees,
