@@ -3,7 +3,7 @@
 use Rattle.std.specs.Prelude.{◌≡◌, List, [], ◌∷◌, ◌++◌, map, ℕ, ◌+◌, ◌*◌, ◌≤◌, ◌<◌, length, get_or, drop}
 use Rattle.tables.specs.Cells.{cells, rows_of, Each}
 use Rattle.tables.specs.Limits.{element_limit, item_limit, file_limit, string_limit}
-use Rattle.tables.specs.Records.{Element, Name, TypeNumber, Place, Text, enum_number, string, whole_number, float, Tree, Elements}
+use Rattle.tables.specs.Records.{Name, TypeNumber, Text, enum_number, string, whole_number, float, Tree, Elements}
 use Rattle.tables.specs.Texts.{text_kind, text_value, text_from}
 
 -- ---- sizes, and where the areas begin

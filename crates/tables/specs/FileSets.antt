@@ -1,9 +1,9 @@
 -- Document 01, "File sets". Assumes nothing.
-use Rattle.std.specs.Prelude.{Bool, true, false, not, ℕ, ◌+◌, ◌-◌, ◌/◌, ◌%◌, ◌^◌, eqb}
-use Rattle.std.proofs.Math.Option.{Option, none, some}
+use Rattle.std.specs.Prelude.{Bool, true, false, ◌+◌, ◌-◌, ◌/◌, ◌%◌, ◌^◌, eqb}
+use Rattle.std.proofs.Math.Option.{Option, none}
 use Rattle.std.specs.Int.Bits.{bit_and}
 use Rattle.tables.specs.Lists.{first_of}
-use Rattle.tables.specs.Records.{FileNumber, FileSet, Element, Model, Tree, Fixed, root, set_of}
+use Rattle.tables.specs.Records.{FileNumber, FileSet, Model, Tree, Fixed, root, set_of}
 
 -- Set 0 means no set stored.
 abbrev pub no_set : FileSet

@@ -1,5 +1,5 @@
 -- The log's table: the count, then the entries, oldest first, then zeros. Assumes nothing.
-use Rattle.std.specs.Prelude.{◌≡◌, List, [], ◌∷◌, ◌++◌, reverse, ℕ, zero, suc, ◌+◌, ◌*◌, ◌-◌, ◌≤◌, ◌<◌, length, get_or, drop}
+use Rattle.std.specs.Prelude.{◌≡◌, List, ◌∷◌, reverse, ℕ, zero, suc, ◌+◌, ◌*◌, ◌-◌, ◌≤◌, ◌<◌, length, get_or, drop}
 use Rattle.tables.specs.Cells.{cells, rows_of, Each}
 use Rattle.tables.specs.FileSets.{no_set}
 use Rattle.tables.specs.Limits.{element_limit, file_limit, log_limit}

@@ -1,6 +1,6 @@
 -- The model as a table: the count of elements; each element's parent + 1, 0 for none; where each element's list starts among the items, and
 -- where the last one ends; the items of all lists, in the order of their owners; each element's set. Unused cells are zero. Assumes nothing.
-use Rattle.std.specs.Prelude.{Bool, true, false, List, [], ◌∷◌, ◌++◌, map, ◌≡◌, ℕ, zero, suc, ◌+◌, ◌-◌, ◌*◌, ◌≤◌, ◌<◌, ltb, length, get_or, take, drop, replicate}
+use Rattle.std.specs.Prelude.{true, false, List, [], ◌∷◌, ◌++◌, map, ◌≡◌, ℕ, zero, suc, ◌+◌, ◌-◌, ◌*◌, ◌≤◌, ◌<◌, ltb, length, get_or, take, drop, replicate}
 use Rattle.std.proofs.Math.Option.{Option, none, some}
 use Rattle.tables.specs.Cells.{padded, cells, rows_of, Each}
 use Rattle.tables.specs.Limits.{element_limit, item_limit}

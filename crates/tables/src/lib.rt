@@ -1,5 +1,6 @@
 // The lent tables: number types, file sets, paths, texts, and the encoding of schema, elements, model and log in cells.
 #![tactic(auto)]
+
 pub mod cells;
 pub mod elements;
 pub mod file_set;

@@ -3,10 +3,9 @@
 use mathlib.Core.Path.{◌≡◌, refl, sym, ap, ◌∙◌, subst}
 use mathlib.Core.List.{List, [], ◌∷◌, ◌++◌, map, reverse, reverse-cons, append_assoc, append-nil}
 use Prim.Native.Nat.{ℕ, zero, suc, ◌+◌, ◌*◌, ◌-◌, ◌≤◌, ◌<◌}
-use native.Mathlib.Nat.{zero-add, suc-add, add-suc, add-zero, suc-mul, zero-mul, le_of_suc-le-suc, not-suc-le-zero, mul-le-mul_right, suc-sub-suc}
-use native.Mathlib.Numerals.{add-one}
+use native.Mathlib.Nat.{zero-add, suc-add, add-zero, suc-mul, zero-mul, le_of_suc-le-suc, not-suc-le-zero, mul-le-mul_right}
 use native.Mathlib.Omega.{arith}
-use lib.ListN.{length, set, get_or, take, drop, replicate, length-append, length-replicate, length-set, get_or-append, get_or-eq_default, get_or-replicate, replicate-append-replicate, take-append-drop}
+use lib.ListN.{length, set, get_or, take, drop, replicate, length-append, length-replicate, length-set, get_or-append, replicate-append-replicate, take-append-drop}
 use lib.Seq.{set-append_left, take_all, take_at, drop_at, drop-drop, take-add, length-take-le}
 use borrow.Rule.Slice.PartMut.{mid_of, put_mid}
 use Rattle.tables.specs.Cells.{padded, puts, Each, row_cells, cells, rows_of, row_at}

@@ -1,18 +1,15 @@
 -- Laws of the elements' table: reading it back, its counts and rows, an element, a text, a tree added. Assumes nothing.
-use mathlib.Core.Bool.{Bool, true, false, cond}
 use mathlib.Core.Path.{◌≡◌, refl, sym, ap, ◌∙◌}
 use mathlib.Core.List.{List, [], ◌∷◌, ◌++◌, map, append_assoc, append-nil}
-use Prim.Native.Nat.{ℕ, zero, suc, ◌+◌, ◌*◌, ◌-◌, ◌/◌, ◌%◌, ◌≤◌, ◌<◌}
-use native.Mathlib.Nat.{not-suc-le-zero, div-add-mod', mod-lt, suc_inj}
-use native.Mathlib.Numerals.{add-one}
+use Prim.Native.Nat.{ℕ, zero, suc, ◌+◌, ◌*◌, ◌/◌, ◌%◌, ◌≤◌, ◌<◌}
+use native.Mathlib.Nat.{div-add-mod', mod-lt}
 use native.Mathlib.Omega.{arith}
-use lib.Dec.{eqb}
 use lib.ListN.{length, get_or, set, drop, length-append, get_or-map}
 use lib.Seq.{drop_at}
 use borrow.Author.Tests.{ne_eqb}
-use Rattle.tables.specs.Cells.{cells, rows_of, puts, Each}
+use Rattle.tables.specs.Cells.{cells, rows_of, puts}
 use Rattle.tables.specs.Limits.{element_limit, item_limit, file_limit, string_limit}
-use Rattle.tables.specs.Records.{Element, Name, TypeNumber, Place, Text, enum_number, string, whole_number, float, Tree, Elements, add_element, add_text, add_tree}
+use Rattle.tables.specs.Records.{Text, enum_number, string, whole_number, float, Tree, Elements, add_element, add_text, add_tree}
 use Rattle.tables.specs.Texts.{text_kind, text_value, text_from}
 use Rattle.tables.specs.ElementsTable.{elements_size, elements_at, texts_at, trees_at, elements_area, texts_area, trees_area, element_width, text_width, tree_width, ElementRow, element_rows, element_cells, cells_element, text_cells, cells_text, tree_cells, cells_tree, no_tree, encode_elements, elements_of, TextFits, SizedElements, GoodElements, HoldsElements}
 use Rattle.tables.proofs.Laws.Cells.{length-cells, cells-back, last-back, each_all, each-imp, each_append, read-row, read-last, appended, appended-last}

@@ -1,5 +1,5 @@
 -- Laws of file sets, for every file number and every width. Assumes nothing.
-use mathlib.Core.Bool.{Bool, true, false}
+use mathlib.Core.Bool.{true, false}
 use mathlib.Core.Path.{◌≡◌, refl, sym, ap, ap₂, ◌∙◌}
 use Prim.Native.Nat.{ℕ, zero, suc, ◌+◌, ◌-◌, ◌*◌, ◌/◌, ◌%◌, ◌^◌, ◌≤◌, ◌<◌, min, max}
 use native.Mathlib.Nat.{div-one, div-div-eq-div-mul, pow-succ', one-le-pow, le-div_iff_mul-le, div-add-mod', zero-div, zero-min, max-zero, one-mul, mod-eq_of_lt, pow-le-pow_right}

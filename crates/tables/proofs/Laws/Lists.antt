@@ -1,16 +1,15 @@
 -- Laws of lists: entries inserted and removed, lists one behind the other, and changes of a part in place. Assumes nothing.
 use mathlib.Core.Bool.{Bool, true, false≢true}
-use mathlib.Core.Path.{◌≡◌, refl, sym, ap, ◌∙◌, subst}
-use mathlib.Core.Logic.{◌≢◌}
+use mathlib.Core.Path.{◌≡◌, refl, sym, ap, ◌∙◌}
 use mathlib.Core.List.{List, [], ◌∷◌, ◌++◌, map, append_assoc, append-nil}
 use Prim.Native.Nat.{ℕ, zero, suc, ◌+◌, ◌-◌, ◌≤◌, ◌<◌}
-use native.Mathlib.Nat.{zero-add, add-zero, suc-add, add-suc, le_of_suc-le-suc, not-suc-le-zero}
+use native.Mathlib.Nat.{zero-add, add-zero, suc-add, le_of_suc-le-suc, not-suc-le-zero}
 use native.Mathlib.Numerals.{add-one}
 use native.Mathlib.Omega.{arith}
 use borrow.Author.Tests.{eqb-true, eq-eqb}
 use borrow.Rule.Slice.PartMut.{mid_of, put_mid}
 use lib.Dec.{eqb}
-use lib.ListN.{length, set, get_or, take, drop, replicate, length-append, length-map, length-set, length-drop, length-replicate, drop_of_length-le, get_or-append}
+use lib.ListN.{length, set, get_or, take, drop, replicate, length-append, length-drop, length-replicate, drop_of_length-le, get_or-append}
 use lib.Seq.{take_at, drop_at, length-take-le, take-length, drop-length, drop-cons, drop-drop, drop-append-le, set-append_left, drop-set-add}
 use Rattle.tables.specs.Cells.{Each}
 use Rattle.tables.specs.Lists.{insert_at, remove_at, insert_run, remove_run, sum, same_list}

@@ -1,21 +1,21 @@
 -- Laws of the log's table: reading it back, its count and its entries, an entry pushed, the newest taken off. Assumes nothing.
 use mathlib.Core.Path.{◌≡◌, refl, sym, ap, ◌∙◌}
 use mathlib.Core.List.{List, [], ◌∷◌, ◌++◌, reverse, reverse-cons, reverse-reverse}
-use mathlib.Core.Option.{Option, none, some}
-use Prim.Native.Nat.{ℕ, zero, suc, ◌+◌, ◌*◌, ◌-◌, ◌≤◌, ◌<◌}
+use mathlib.Core.Option.{Option}
+use Prim.Native.Nat.{ℕ, suc, ◌+◌, ◌*◌, ◌-◌, ◌≤◌, ◌<◌}
 use native.Mathlib.Omega.{arith}
 use native.Mathlib.Nat.{not-suc-le-zero, lt_of_not-le}
-use native.Mathlib.Numerals.{add-one, sub-one}
+use native.Mathlib.Numerals.{add-one}
 use native.Mathlib.Decide.{dec_lt}
 use lib.ListN.{length, get_or, set, take, drop, replicate, length-reverse, length-drop, get_or-append}
 use lib.Seq.{drop-cons, get_or_at}
-use Rattle.tables.specs.Cells.{cells, rows_of, puts, Each}
+use Rattle.tables.specs.Cells.{cells, puts}
 use Rattle.tables.specs.FileSets.{no_set}
 use Rattle.tables.specs.SetCells.{set_width, set_cells, cells_set}
 use Rattle.tables.specs.Limits.{log_limit}
-use Rattle.tables.specs.ModelTable.{parent_is, parent_cell, cell_parent, ParentBelow}
+use Rattle.tables.specs.ModelTable.{cell_parent}
 use Rattle.tables.specs.Records.{FileSet, Element, Entry, import, restriction, extension, Log}
-use Rattle.tables.specs.LogTable.{log_size, entries_at, old_set_at, entry_width, entry_is, EntryFits, entry_cells, entry_from, entry_of, encode_log, log_of, SizedLog, GoodLog, HoldsLog, no_entry, entry_at}
+use Rattle.tables.specs.LogTable.{log_size, entries_at, old_set_at, entry_width, EntryFits, entry_cells, entry_from, entry_of, encode_log, log_of, SizedLog, GoodLog, HoldsLog, no_entry, entry_at}
 use Rattle.tables.proofs.Laws.Cells.{length-cells, last-back, each_all, read-last, part-last, append-last, clear-last}
 use Rattle.tables.proofs.Laws.ModelTable.{cell_parent-back}
 use Rattle.tables.proofs.Laws.SetCells.{set_back, wide-set, no-set-cells}

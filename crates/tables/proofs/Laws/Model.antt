@@ -1,15 +1,15 @@
 -- Laws of the model's changes, for callers: what each change leaves alone, what a read finds after it, and changes undone. Assumes nothing.
 use mathlib.Core.List.{List, [], ◌∷◌, ◌++◌, map, append-nil}
 use mathlib.Core.Logic.{◌≢◌}
-use mathlib.Core.Option.{Option, none, some}
+use mathlib.Core.Option.{Option, none}
 use mathlib.Core.Path.{◌≡◌, refl, sym, ap, ◌∙◌}
-use Prim.Native.Nat.{ℕ, zero, suc, ◌+◌, ◌-◌, ◌≤◌, ◌<◌}
+use Prim.Native.Nat.{ℕ, suc, ◌+◌, ◌-◌, ◌≤◌, ◌<◌}
 use native.Mathlib.Numerals.{add-one}
 use native.Mathlib.Omega.{arith}
 use lib.ListN.{length, set, get_or, length-append, length-map, length-set, get_or-append, get_or-map}
 use lib.Seq.{get_or-set_same, get_or-set_other, set-set, set-get_or, get_or_at, map-set_same}
 use Rattle.tables.specs.Lists.{insert_at, remove_at, insert_run, remove_run, sum}
-use Rattle.tables.specs.Records.{Item, child, text, Model, content_items, parent_of, set_of, list_of, put_parent, put_set, put_list, insert_item, insert_items, put_item, remove_item, remove_items, add_to_model}
+use Rattle.tables.specs.Records.{Item, Model, content_items, parent_of, set_of, list_of, put_parent, put_set, put_list, insert_item, insert_items, put_item, remove_item, remove_items, add_to_model}
 use Rattle.tables.specs.ModelTable.{flat, start_of, count_of}
 use Rattle.tables.proofs.Laws.Lists.{insert_run-one, length-insert_run, length-remove_run, remove_run-insert_run, insert_at-remove_at, remove_run-set, map-set, sum_more, length-flat, flat_append, flat-remove, start_fits}
 

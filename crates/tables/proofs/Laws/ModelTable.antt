@@ -1,25 +1,24 @@
 -- The model table: it decodes to what it encodes, what each read finds, and what each store leaves. Assumes nothing.
-use mathlib.Core.Bool.{Bool, true, false}
-use mathlib.Core.List.{List, [], ◌∷◌, ◌++◌, map, append_assoc, append-nil}
+use mathlib.Core.List.{List, [], ◌∷◌, ◌++◌, map, append_assoc}
 use mathlib.Core.Option.{Option, none, some}
 use mathlib.Core.Path.{◌≡◌, refl, sym, ap, ◌∙◌, subst}
 use Prim.Native.Nat.{ℕ, zero, suc, ◌+◌, ◌-◌, ◌*◌, ◌≤◌, ◌<◌}
-use native.Mathlib.Nat.{zero-add, sub-zero, add-sub_cancel_left, le_of_suc-le-suc, not-suc-le-zero}
+use native.Mathlib.Nat.{zero-add, sub-zero, add-sub_cancel_left, not-suc-le-zero}
 use native.Mathlib.Numerals.{add-one}
 use native.Mathlib.Omega.{arith}
 use borrow.Author.Tests.{lt-ltb, le-ltb}
 use borrow.Rule.Slice.PartMut.{mid_of, put_mid}
-use lib.ListN.{length, set, get_or, take, drop, replicate, length-append, length-map, length-set, length-replicate, get_or-append, get_or-map, replicate-append-replicate}
-use lib.Seq.{take_at, drop_at, drop-drop}
+use lib.ListN.{length, set, get_or, take, drop, replicate, length-append, length-map, length-set, length-replicate, get_or-map, replicate-append-replicate}
+use lib.Seq.{drop_at, drop-drop}
 use Rattle.tables.specs.Cells.{padded, puts, row_cells, cells, rows_of, Each}
 use Rattle.tables.specs.Limits.{element_limit, item_limit}
 use Rattle.tables.specs.Lists.{insert_run, remove_run, sum}
 use Rattle.tables.specs.FileSets.{no_set}
 use Rattle.tables.specs.SetCells.{set_width, set_cells, cells_set}
 use Rattle.tables.specs.Records.{FileSet, Item, child, text, Model, content_items, parent_of, set_of, list_of, put_parent, put_set, put_list, insert_items, put_item, remove_items, add_to_model}
-use Rattle.tables.specs.ModelTable.{parents_at, sets_at, starts_at, items_at, model_size, parent_cell, cell_parent, item_cell, cell_item, sums, gaps, gaps_of, flat, start_of, cut, count_of, encode_model, model_of, ParentBelow, ItemBelow, SizedModel, GoodModel, HoldsModel, shift_in, shift_out, on_from, no_model}
-use Rattle.tables.proofs.Laws.Cells.{set-inside, get_d-inside, get_d-behind, length-padded, get_d-padded, set-padded, set-behind-padded, take-padded, padded-more, mid-padded, put-padded, each-get_d, each_set, each_append, each_all, each-imp, length-cells, last-back, get_d-rows_of, put_last, append-last}
-use Rattle.tables.proofs.Laws.Lists.{length-remove_run, each-insert_run, each-remove_run, map-set, map-insert_run, map-remove_run, map-then, map_back, length-flat, flat_append, flat-insert_run, flat-remove, flat-set, get_d-flat, start_fits, start-end, start-next, cut-flat, length-shift_in, length-shift_out, shift_in-room}
+use Rattle.tables.specs.ModelTable.{parents_at, sets_at, starts_at, items_at, model_size, parent_cell, cell_parent, item_cell, cell_item, sums, gaps_of, flat, start_of, cut, count_of, encode_model, model_of, ParentBelow, ItemBelow, SizedModel, GoodModel, HoldsModel, shift_in, shift_out, on_from, no_model}
+use Rattle.tables.proofs.Laws.Cells.{set-inside, get_d-inside, length-padded, get_d-padded, set-padded, set-behind-padded, take-padded, padded-more, mid-padded, put-padded, each-get_d, each_set, each_append, each_all, each-imp, length-cells, last-back, get_d-rows_of, put_last, append-last}
+use Rattle.tables.proofs.Laws.Lists.{length-remove_run, each-insert_run, each-remove_run, map-set, map-insert_run, map-remove_run, map-then, map_back, length-flat, flat-insert_run, flat-remove, flat-set, get_d-flat, start_fits, start-end, start-next, cut-flat, length-shift_in, length-shift_out, shift_in-room}
 use Rattle.tables.proofs.Laws.Model.{length-list-insert, length-list-put, length-list-remove, total-insert_items, total-put_item, total-remove, flat-add, total-add}
 use Rattle.tables.proofs.Laws.SetCells.{set_back, wide-set}
 use Rattle.tables.proofs.Laws.Starts.{length-sums, gaps-sums, sums_at, sums-insert, sums-remove, sums-append, sums-most, sums-past}

@@ -2,9 +2,9 @@
 use mathlib.Core.Path.{◌≡◌, refl, sym, ap, ◌∙◌}
 use mathlib.Core.List.{List, [], ◌∷◌, ◌++◌, map}
 use Prim.Native.Nat.{ℕ, zero, suc, ◌+◌, ◌-◌, ◌≤◌, ◌<◌}
-use native.Mathlib.Nat.{zero-add, add-suc, add-zero, add-sub_cancel_left, le_of_suc-le-suc, not-suc-le-zero}
+use native.Mathlib.Nat.{add-zero, add-sub_cancel_left, le_of_suc-le-suc, not-suc-le-zero}
 use native.Mathlib.Omega.{arith}
-use lib.ListN.{length, set, get_or, length-map}
+use lib.ListN.{length, set, get_or}
 use Rattle.tables.specs.Lists.{sum}
 use Rattle.tables.specs.ModelTable.{sums, gaps, gaps_of, start_of, on_from}
 

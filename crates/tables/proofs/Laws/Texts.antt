@@ -1,7 +1,6 @@
 -- Laws of texts: when two are equal. Assumes nothing.
 use mathlib.Core.Bool.{Bool, true, false, not, ◌||◌, ◌&&◌}
 use mathlib.Core.List.{List, [], ◌∷◌}
-use mathlib.Core.Logic.{◌⊎◌, inl, inr}
 use mathlib.Core.Path.{◌≡◌, refl, sym, ap, ◌∙◌}
 use Prim.Native.Nat.{ℕ, suc, ◌+◌, ◌-◌, ◌*◌, ◌%◌, ◌≤◌, ◌<◌}
 use native.Mathlib.Nat.{sub-zero, add-zero}
@@ -12,8 +11,7 @@ use lib.Ieee.{Float, nan, inf, fin, up, down, binary64, of_bits, nan_bits, is_na
 use lib.Ieee.Bits.{nan_bits_is, nan_bits_above}
 use lib.ListN.{length, take, drop, get_or, length-drop}
 use lib.Seq.{drop-cons, length-take-le}
-use denote.Enum.Declared.{tag_of}
-use Rattle.tables.specs.contracts.text.Text.{the_type}
+use Rattle.tables.specs.declared.text.Place as code_place
 use Rattle.tables.specs.declared.text.Text as code_text
 use Rattle.tables.specs.declared.text.Text.TheVariants.{Number, Str, Whole, Float as FloatValue}
 use Rattle.tables.specs.Lists.{same_list}
@@ -132,30 +130,34 @@ sizes-differ d p q hp hq n =
 
 -- ---- texts of different kinds
 
--- the number is none of three, and the other is one of them
-pub apart : {t u i j k : ℕ} → (t ≡ i) ⊎ ((t ≡ j) ⊎ (t ≡ k)) → (u ≡ i → ⊥) → (u ≡ j → ⊥) → (u ≡ k → ⊥) → t ≡ u → ⊥
-apart (inl h) x y z e = x (sym e ∙ h)
-apart (inr (inl h)) x y z e = y (sym e ∙ h)
-apart (inr (inr h)) x y z e = z (sym e ∙ h)
-
-pub other-kind : (d : List ℕ) (a b : code_text.Text) → (tag_of the_type b ≡ tag_of the_type a → ⊥) → same_values d a b ≡ false
+-- a text that is of no such kind has none of its values
+pub not-number : (d : List ℕ) (x : ℕ) (b : code_text.Text) → ((y : ℕ) → b ≡ Number y → ⊥) → same_values d (Number x) b ≡ false
 unfolding same_values
-other-kind d (Number a) (Number b) n = absurd (n refl)
-other-kind d (Number a) (Str b) n = refl
-other-kind d (Number a) (Whole b) n = refl
-other-kind d (Number a) (FloatValue b) n = refl
-other-kind d (Str a) (Number b) n = refl
-other-kind d (Str a) (Str b) n = absurd (n refl)
-other-kind d (Str a) (Whole b) n = refl
-other-kind d (Str a) (FloatValue b) n = refl
-other-kind d (Whole a) (Number b) n = refl
-other-kind d (Whole a) (Str b) n = refl
-other-kind d (Whole a) (Whole b) n = absurd (n refl)
-other-kind d (Whole a) (FloatValue b) n = refl
-other-kind d (FloatValue a) (Number b) n = refl
-other-kind d (FloatValue a) (Str b) n = refl
-other-kind d (FloatValue a) (Whole b) n = refl
-other-kind d (FloatValue a) (FloatValue b) n = absurd (n refl)
+not-number d x (Number y) h = absurd (h y refl)
+not-number d x (Str y) h = refl
+not-number d x (Whole y) h = refl
+not-number d x (FloatValue y) h = refl
+
+pub not-str : (d : List ℕ) (x : code_place.Place) (b : code_text.Text) → ((y : code_place.Place) → b ≡ Str y → ⊥) → same_values d (Str x) b ≡ false
+unfolding same_values
+not-str d x (Number y) h = refl
+not-str d x (Str y) h = absurd (h y refl)
+not-str d x (Whole y) h = refl
+not-str d x (FloatValue y) h = refl
+
+pub not-whole : (d : List ℕ) (x : ℕ) (b : code_text.Text) → ((y : ℕ) → b ≡ Whole y → ⊥) → same_values d (Whole x) b ≡ false
+unfolding same_values
+not-whole d x (Number y) h = refl
+not-whole d x (Str y) h = refl
+not-whole d x (Whole y) h = absurd (h y refl)
+not-whole d x (FloatValue y) h = refl
+
+pub not-float : (d : List ℕ) (x : Float) (b : code_text.Text) → ((y : Float) → b ≡ FloatValue y → ⊥) → same_values d (FloatValue x) b ≡ false
+unfolding same_values
+not-float d x (Number y) h = refl
+not-float d x (Str y) h = refl
+not-float d x (Whole y) h = refl
+not-float d x (FloatValue y) h = absurd (h y refl)
 
 -- ---- the rule's equality is that of the values
 

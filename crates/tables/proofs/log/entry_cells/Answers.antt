@@ -1,0 +1,17 @@
+use Rattle.tables.specs.LogTable.{entry_cells}
+use Rattle.tables.proofs.log.entry_cells.Goals as goal
+
+pub parent_cell-requires : goal.parent_cell-requires
+parent_cell-requires c = let h = rw c.in-Import.is at c.requires in h.2
+
+pub returns-in-Import : goal.returns-in-Import
+unfolding entry_cells
+returns-in-Import c = rw (c.in-Import.is, ← c.parent_cell.ensures)
+
+pub returns-in-Restriction : goal.returns-in-Restriction
+unfolding entry_cells
+returns-in-Restriction c = rw c.in-Restriction.is
+
+pub returns-in-Extension : goal.returns-in-Extension
+unfolding entry_cells
+returns-in-Extension c = rw (c.in-Extension.is, c.none.ensures)

@@ -1,0 +1,26 @@
+use mathlib.Core.Path.{refl, sym, ◌∙◌}
+use Prim.Native.Nat.{ℕ, ◌-◌}
+use native.Mathlib.Nat.{le_refl}
+use native.Mathlib.Omega.{arith}
+use lib.ListN.{get_or, length-set}
+use lib.Seq.{get_or-set_other}
+use Rattle.tables.proofs.Laws.Lists.{on_from-turn, on_from-past}
+use Rattle.tables.proofs.model.lower_from.Goals as goal
+
+pub loop-j-init : goal.loop-j-init
+loop-j-init c = (refl, refl, c.requires)
+
+pub overflow_sub-s : goal.overflow_sub-s
+overflow_sub-s c = omega (arith, c.loop-j.invariant.2 c.loop-j.j (le_refl c.loop-j.j) (omega arith))
+
+pub loop-j-preserved : goal.loop-j-preserved
+loop-j-preserved c =
+    let k = c.args.k in (
+      on_from-turn (λ (x : ℕ). x - k) c.loop-j.s c.loop-j.j c.loop-j-test.true ∙ c.loop-j.invariant.0,
+      simp length-set c.loop-j.invariant.1,
+      λ n h b. rw (get_or-set_other c.loop-j.s c.loop-j.j n (get_or c.loop-j.s c.loop-j.j 0 - k) 0 (omega arith)) (c.loop-j.invariant.2 n (omega arith) b),
+    )
+
+pub returns : goal.returns
+returns c =
+    sym (on_from-past (λ (x : ℕ). x - c.args.k) c.loop-j.s c.loop-j.j c.loop-j-test.false) ∙ c.loop-j.invariant.0

@@ -1,0 +1,33 @@
+use mathlib.Core.Path.{sym, ◌∙◌}
+use native.Mathlib.Omega.{arith}
+use lib.ListN.{length-set}
+use borrow.Author.Rules.{rules}
+use Rattle.tables.specs.Paths.{cells_of, parts_of}
+use Rattle.tables.specs.SchemaTable.{mult_from}
+use Rattle.tables.proofs.Laws.SchemaTable.{added-row, row-cells, length_front}
+use Rattle.tables.proofs.schema.add_row.Goals as goal
+
+pub link-requires : goal.link-requires
+link-requires c = record { index_size_in_bounds = simp length-set (omega arith); b_lt_buckets = search rules; n_bound = omega arith }
+
+pub link-requires-2 : goal.link-requires-2
+link-requires-2 c = record { index_size_in_bounds = rw c.link.ensures (simp length-set (omega arith)); b_lt_buckets = search rules; n_bound = omega arith }
+
+pub returns : goal.returns
+returns c =
+    rw (c.link-2.ensures, c.link.ensures)
+    (added-row c.args.schema.now (search rules) _ _ _
+    (record {
+      type = c.args.t.0;
+      path = parts_of c.args.p;
+      name = c.args.n.0;
+      child_type = c.args.child.0;
+      mult = mult_from c.args.mult;
+      mask = c.args.mask;
+    })
+    _ _ (length_front (cells_of c.args.p)) (search rules) c.row_count-m.ensures
+    (row-cells c.args.t.0 _ _ _ _ (parts_of c.args.p) c.stored_path-q.ensures c.args.n.0 c.args.child.0 c.args.mult c.args.mask (search rules))
+    c.put9.ensures c.bucket.ensures.value c.path_bucket.ensures.value)
+
+pub shape_of-schema : goal.shape_of-schema
+shape_of-schema c = (returns c).good.size ∙ sym c.requires.good_schema.size
