@@ -1,5 +1,6 @@
 // The test of any table: the part of refusal 0 that needs no rule of deck or merge.
 #![tactic(auto)]
+
 pub mod area_test;
 pub mod elements_test;
 pub mod index_test;
