@@ -5,7 +5,7 @@ use Rattle.std.proofs.Math.ListN.{get_elem?}
 use Rattle.tables.specs.FileSets.{no_set, holds, part_of, loaded_files}
 use Rattle.tables.specs.Limits.{deck_limit, type_limit, row_limit, group_limit, element_limit, depth_limit, item_limit}
 use Rattle.tables.specs.Lists.{all_of, any_of}
-use Rattle.tables.specs.Records.{Element, Name, TypeNumber, FileNumber, FileSet, Mode, sequence, choice, bag, mixed, characters, TypeRow, Group, SubElement, File, Schema, Text, Tree, Elements, Item, child, text, Model, Fixed, State, root, type_row, list_of, add_type, add_group, add_sub_element, add_file, add_element, add_text, add_tree, add_to_model, insert_item, content_items}
+use Rattle.tables.specs.Records.{Element, Name, TypeNumber, FileNumber, FileSet, Mode, sequence, choice, bag, mixed, characters, TypeRow, Group, SubElement, File, Schema, Text, Tree, Elements, Item, child, text, Model, Fixed, State, type_row, list_of, add_type, add_group, add_sub_element, add_file, add_element, add_text, add_tree, add_to_model, insert_item, content_items}
 use Rattle.deck.specs.Deck.{Part, lines, Line, T, G, S, F, M, B, E, C, read_line}
 use Rattle.deck.specs.Schema.{declared_type, group_rule, sub_element_rule, declares_file, declared_files, row_of_name}
 

@@ -1,0 +1,24 @@
+use mathlib.Core.Option.{some}
+use mathlib.Core.Path.{sym, ◌∙◌, ap}
+use native.Mathlib.Omega.{arith}
+use Rattle.deck.specs.Deck.{letter}
+use Rattle.deck.specs.Answers.{num_is}
+use Rattle.deck.proofs.Laws.Lines.{letter-one, letter-not}
+use Rattle.deck.proofs.lines.letter_at.Goals as goal
+
+pub overflow_sub-e : goal.overflow_sub-e
+overflow_sub-e c = omega (arith, (c.places-p.ensures c.args.deck.now c.requires).ordered, (c.places-p.ensures c.args.deck.now c.requires).within)
+
+pub bounds-deck-a : goal.bounds-deck-a
+bounds-deck-a c =
+    omega (arith, (c.places-p.ensures c.args.deck.now c.requires).within, (c.places-p.ensures c.args.deck.now c.requires).ordered, c.if-e-a-eq1.true)
+
+pub returns-then-e-a-eq1 : goal.returns-then-e-a-eq1
+unfolding num_is
+returns-then-e-a-eq1 c =
+    ap some c.wide.ensures ∙ sym (letter-one c.args.deck.now c.places-p.result.start c.places-p.result.end (c.places-p.ensures c.args.deck.now c.requires).within c.if-e-a-eq1.true) ∙ ap letter (c.places-p.ensures c.args.deck.now c.requires).is
+
+pub returns-else-e-a-eq1 : goal.returns-else-e-a-eq1
+unfolding num_is
+returns-else-e-a-eq1 c =
+    sym (letter-not c.args.deck.now c.places-p.result.start c.places-p.result.end (c.places-p.ensures c.args.deck.now c.requires).within c.if-e-a-eq1.false) ∙ ap letter (c.places-p.ensures c.args.deck.now c.requires).is

@@ -1,0 +1,19 @@
+use mathlib.Core.Option.{bind}
+use mathlib.Core.Path.{◌∙◌, ap}
+use native.Mathlib.Omega.{arith}
+use Rattle.deck.specs.Deck.{by_letter, texts, text_fields}
+use Rattle.deck.specs.Answers.{num_is, text_is}
+use Rattle.deck.proofs.lines.text_at.Goals as goal
+
+pub returns-in_default : goal.returns-in_default
+unfolding text_is num_is text_fields bind
+returns-in_default c = record { is = rw (← c.letter_at.ensures, c.in_default.is); fits = tt }
+
+pub text_field-requires : goal.text_field-requires
+text_field-requires c =
+    ((c.places-p.ensures c.args.deck.now c.requires.0).ordered, (c.places-p.ensures c.args.deck.now c.requires.0).within, omega arith)
+
+pub returns : goal.returns
+unfolding num_is text_fields bind
+returns c =
+    record { is = rw (← c.letter_at.ensures, c.in-Number.is) (c.text_field.ensures.is ∙ ap (by_letter texts c.in-Number.kind) (c.places-p.ensures c.args.deck.now c.requires.0).is); fits = c.text_field.ensures.fits }
