@@ -1,0 +1,17 @@
+use mathlib.Core.Path.{◌∙◌}
+use Rattle.tables.specs.SchemaTable.{schema_of}
+use Rattle.schema_calls.proofs.Laws.Scans.{found-at, found_within, found-missing}
+use Rattle.schema_calls.proofs.Laws.Files.{version-at, version-none}
+use borrow.Author.Rules.{rules}
+use Rattle.schema_calls.proofs.files.version_of.Goals as goal
+
+pub file_version-requires : goal.file_version-requires
+file_version-requires c = record { good_schema = search rules; i_in_bounds = found_within c.find_file-found.ensures c.in-At.is }
+
+pub returns-in-At : goal.returns-in-At
+returns-in-At c =
+    c.file_version.ensures ∙ version-at (schema_of c.args.schema.now) c.args.f.0 (found-at c.find_file-found.ensures c.in-At.is)
+
+pub returns-in-Missing : goal.returns-in-Missing
+returns-in-Missing c =
+    version-none (schema_of c.args.schema.now) c.args.f.0 (found-missing c.find_file-found.ensures c.in-Missing.is)

@@ -1,0 +1,40 @@
+use mathlib.Core.Path.{sym, ap, ◌∙◌}
+use Prim.Native.Nat.{◌-◌}
+use Rattle.tables.specs.SchemaTable.{schema_of, key_in}
+use Rattle.schema_calls.specs.Search.{alike_at, is_found}
+use Rattle.schema_calls.specs.declared.calls.Found.TheVariants.{Missing}
+use Rattle.schema_calls.proofs.Laws.Search.{walk-starts, walk-past, walk_any, walk_end, walk-less, key-of-alike}
+use Rattle.schema_calls.proofs.search.repeats.Goals as goal
+
+pub loop-next-init : goal.loop-next-init
+loop-next-init c =
+    let sc = schema_of c.args.schema.now in
+    let key = key_in sc c.args.x in
+    walk-starts key (alike_at sc c.args.x c.args.i) (key c.args.i) (key-of-alike sc c.args.x c.args.i) c.args.i c.latest_above-next.ensures
+
+pub returns-then-alike : goal.returns-then-alike
+returns-then-alike c =
+    let sc = schema_of c.args.schema.now in
+    let key = key_in sc c.args.x in
+    walk_any key (alike_at sc c.args.x c.args.i) (key c.args.i) c.args.i c.loop-next.next Missing c.loop-next.invariant (key-of-alike sc c.args.x c.args.i) c.loop-next-test.true
+    (sym c.alike.ensures ∙ c.if-alike.true)
+
+pub loop-next-smaller : goal.loop-next-smaller
+loop-next-smaller c =
+    let key = key_in (schema_of c.args.schema.now) c.args.x in
+    let next = c.loop-next.next in
+    walk-less key (key (next - 1)) next c.loop-next-test.true c.latest_above-next-in-loop-next.ensures
+
+pub loop-next-preserved : goal.loop-next-preserved
+loop-next-preserved c =
+    let sc = schema_of c.args.schema.now in
+    let key = key_in sc c.args.x in
+    walk-past key (alike_at sc c.args.x c.args.i) (key c.args.i) c.args.i c.loop-next.next Missing c.loop-next.invariant (key-of-alike sc c.args.x c.args.i) c.loop-next-test.true
+    c.latest_above-next-in-loop-next.ensures (sym c.alike.ensures ∙ c.if-alike.false)
+
+pub returns : goal.returns
+unfolding is_found
+returns c =
+    let sc = schema_of c.args.schema.now in
+    let key = key_in sc c.args.x in
+    ap is_found (walk_end key (alike_at sc c.args.x c.args.i) (key c.args.i) c.args.i c.loop-next.next Missing c.loop-next.invariant c.loop-next-test.false)
