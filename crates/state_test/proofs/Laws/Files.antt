@@ -75,10 +75,10 @@ module _ (t : Entry → Bool) (l : Log) (i : ℕ) (some : 0 < i) (fits : i ≤ l
       let z : length l - suc (i - 1) ≡ length l - i = omega arith in
       is ∙ ap (λ (k : ℕ). t (get_or l k no_entry)) z
 
-  pub entry-stop : not r ≡ true → all_of t (drop (length l - i) l) ≡ all_of t l → false ≡ all_of t l
+  pub entry-stop : r ≡ false → all_of t (drop (length l - i) l) ≡ all_of t l → false ≡ all_of t l
   entry-stop n inv = sym (all-stop t l (length l - i) no_entry (omega arith) (failed entry-is n)) ∙ inv
 
-  pub entry_more : not r ≡ false → all_of t (drop (length l - i) l) ≡ all_of t l → all_of t (drop (length l - (i - 1)) l) ≡ all_of t l
+  pub entry_more : r ≡ true → all_of t (drop (length l - i) l) ≡ all_of t l → all_of t (drop (length l - (i - 1)) l) ≡ all_of t l
   entry_more n inv =
       let z : length l - (i - 1) ≡ length l - i + 1 = omega arith in
       rw z (all_more t l (length l - i) no_entry (omega arith) (passed entry-is n) ∙ inv)
@@ -113,16 +113,16 @@ abbrev unless : Bool → Bool → Bool
 unless a b = elim a [ true ↦ false | false ↦ b ]
 
 -- the trees' files are distinct, and none is in the set
-distinct_from : (s : FileSet) (ts : List Tree) → distinct_from s ts ≡ unless (any_of (λ (t : Tree). holds s t.file) ts) (tree_files_distinct ts)
+distinct_from_lem : (s : FileSet) (ts : List Tree) → distinct_from s ts ≡ unless (any_of (λ (t : Tree). holds s t.file) ts) (tree_files_distinct ts)
 unfolding distinct_from tree_files_distinct any_of
-distinct_from s [] = refl
-distinct_from s (t ∷ ts) =
+distinct_from_lem s [] = refl
+distinct_from_lem s (t ∷ ts) =
     let same : Tree → Bool = λ u. eqb u.file t.file in
     let held : Tree → Bool = λ u. holds s u.file in
     let more : Tree → Bool = λ u. holds (with_file s t.file) u.file in
     let any : any_of more ts ≡ either (any_of same ts) (any_of held ts) =
     any-either same held more (λ u. with_file-holds s t.file u.file (same u) (eqb-true u.file t.file) (eqb-false u.file t.file)) ts in
-    by (held t) (any_of same ts) (any_of held ts) (tree_files_distinct ts) (distinct_from (with_file s t.file) ts ∙ ap (λ (b : Bool). unless b (tree_files_distinct ts)) any)
+    by (held t) (any_of same ts) (any_of held ts) (tree_files_distinct ts) (distinct_from_lem (with_file s t.file) ts ∙ ap (λ (b : Bool). unless b (tree_files_distinct ts)) any)
   where
     by : (a c d u : Bool) {v : Bool} → v ≡ unless (either c d) u → unless a v ≡ unless (either a d) (unless c u)
     by true c d u e = refl
@@ -132,7 +132,7 @@ distinct_from s (t ∷ ts) =
 
 pub distinct-start : (ts : List Tree) {s : FileSet} → s ≡ no_set → distinct_from s ts ≡ tree_files_distinct ts
 unfolding any_of
-distinct-start ts e = rw e (rw (none ts) at (distinct_from no_set ts))
+distinct-start ts e = rw e (rw (none ts) at (distinct_from_lem no_set ts))
   where
     none : (l : List Tree) → any_of (λ (t : Tree). holds no_set t.file) l ≡ false
     none [] = refl

@@ -1,5 +1,5 @@
 -- What lent tables that pass refusal 0 have beyond their own test. Assumes nothing.
-use mathlib.Core.Bool.{true, false, ◌&&◌, and-eq-true_iff, false≢true}
+use mathlib.Core.Bool.{true, ◌&&◌, and-eq-true_iff, false≢true}
 use mathlib.Core.List.{List, Memᴰ}
 use mathlib.Core.Path.{◌≡◌, ◌∙◌}
 use Prim.Native.Nat.{ℕ, suc, ◌<◌}

@@ -1,5 +1,5 @@
 -- Laws of roots and of listed elements. Assumes nothing.
-use mathlib.Core.Bool.{Bool, true, false, not, ◌&&◌, and-eq-true_iff, false≢true}
+use mathlib.Core.Bool.{Bool, true, false, ◌&&◌, and-eq-true_iff, false≢true}
 use mathlib.Core.List.{List, [], ◌∷◌}
 use mathlib.Core.Option.{none, some, none-ne-some, some-injective}
 use mathlib.Core.Path.{◌≡◌, refl, sym, ap, ◌∙◌}
@@ -7,7 +7,7 @@ use Prim.Native.Nat.{ℕ, zero, suc, ◌+◌, ◌≤◌, ◌<◌}
 use native.Mathlib.Nat.{add-zero}
 use native.Mathlib.Numerals.{add-one}
 use native.Mathlib.Omega.{arith}
-use borrow.Author.Tests.{not-true, not-false, eq-eqb, ne_eqb, eqb-true}
+use borrow.Author.Tests.{eq-eqb, ne_eqb, eqb-true}
 use lib.Dec.{eqb}
 use lib.ListN.{length, get_or, drop, get_or-eq_default}
 use Rattle.tables.specs.Lists.{all_of, first_of}
@@ -103,16 +103,16 @@ module _ (sc : Schema) (i : ℕ) where
 
 module _ (x : Fixed) (ls : List (List Item)) (p : ℕ) where
   module _ (h : p < length ls) {r : Bool} (is : r ≡ all_of (item_valid x p) (get_or ls p [])) where
-    pub lists-stop : not r ≡ true → lists_valid x p (drop p ls) ≡ lists_valid x 0 ls → false ≡ lists_valid x 0 ls
+    pub lists-stop : r ≡ false → lists_valid x p (drop p ls) ≡ lists_valid x 0 ls → false ≡ lists_valid x 0 ls
     unfolding lists_valid
     lists-stop n inv =
-        let k : lists_valid x p (drop p ls) ≡ false = rw (drop-next ls p [] h, lists_valid, sym is ∙ not-true r n) in
+        let k : lists_valid x p (drop p ls) ≡ false = rw (drop-next ls p [] h, lists_valid, sym is ∙ n) in
         sym k ∙ inv
 
-    pub lists-more : not r ≡ false → lists_valid x p (drop p ls) ≡ lists_valid x 0 ls → lists_valid x (p + 1) (drop (p + 1) ls) ≡ lists_valid x 0 ls
+    pub lists-more : r ≡ true → lists_valid x p (drop p ls) ≡ lists_valid x 0 ls → lists_valid x (p + 1) (drop (p + 1) ls) ≡ lists_valid x 0 ls
     unfolding lists_valid
     lists-more n inv =
-        let k : lists_valid x p (drop p ls) ≡ lists_valid x (suc p) (drop (p + 1) ls) = rw (drop-next ls p [] h, lists_valid, sym is ∙ not-false r n) in
+        let k : lists_valid x p (drop p ls) ≡ lists_valid x (suc p) (drop (p + 1) ls) = rw (drop-next ls p [] h, lists_valid, sym is ∙ n) in
         ap (λ (q : ℕ). lists_valid x q (drop (p + 1) ls)) (add-one p) ∙ sym k ∙ inv
 
   pub lists-end : length ls ≤ p → lists_valid x p (drop p ls) ≡ lists_valid x 0 ls → true ≡ lists_valid x 0 ls

@@ -1,10 +1,9 @@
 -- Laws of the schema rules row by row: each row meets its rule by the rows above it. Assumes nothing.
-use mathlib.Core.Bool.{Bool, true, false, not, true≢false}
+use mathlib.Core.Bool.{Bool, true, false, true≢false}
 use mathlib.Core.List.{List, [], ◌∷◌, ◌++◌, append_assoc, append-nil}
 use mathlib.Core.Path.{◌≡◌, refl, sym, ap, subst, ◌∙◌}
 use Prim.Native.Nat.{ℕ, ◌+◌, ◌≤◌, ◌<◌}
 use native.Mathlib.Numerals.{add-one}
-use borrow.Author.Tests.{not-true, not-false}
 use lib.ListN.{length, get_or, take, drop}
 use lib.Seq.{take-suc}
 use Rattle.tables.specs.Records.{SchemaPath, Group, SubElement, Schema, add_group, add_sub_element}
@@ -62,13 +61,13 @@ module _ {A : Type 0} (q : RowRules A) where
   -- row i tested, the rows before it passed; r the answer for it
   module _ (sc : Schema) (l : List A) (d : A) (i : ℕ) {v : Bool} (inv : q.valid (q.with sc (take i l)) (drop i l) ≡ v) where
     module _ (h : i < length l) {r : Bool} (is : r ≡ q.rule (q.with sc (take i l)) (get_or l i d)) where
-      pub valid-stop : not r ≡ true → false ≡ v
-      valid-stop n = sym (rw (drop-next l i d h) (fails _ _ _ (sym is ∙ not-true r n))) ∙ inv
+      pub valid-stop : r ≡ false → false ≡ v
+      valid-stop n = sym (rw (drop-next l i d h) (fails _ _ _ (sym is ∙ n))) ∙ inv
 
-      pub valid-more : not r ≡ false → q.valid (q.with sc (take (i + 1) l)) (drop (i + 1) l) ≡ v
+      pub valid-more : r ≡ true → q.valid (q.with sc (take (i + 1) l)) (drop (i + 1) l) ≡ v
       valid-more n =
           let one : q.add (q.with sc (take i l)) (get_or l i d) ≡ q.with sc (take (i + 1) l) = q.added sc (take i l) _ ∙ ap (q.with sc) (sym (rw (add-one i) (take-suc l i d h))) in
-          ap (λ (s : Schema). q.valid s (drop (i + 1) l)) (sym one) ∙ sym (meets _ _ _ (sym is ∙ not-false r n)) ∙ rw (← drop-next l i d h) inv
+          ap (λ (s : Schema). q.valid s (drop (i + 1) l)) (sym one) ∙ sym (meets _ _ _ (sym is ∙ n)) ∙ rw (← drop-next l i d h) inv
 
     pub valid-end : length l ≤ i → true ≡ v
     valid-end h = sym (rw (drop-end l i h) (q.none _)) ∙ inv

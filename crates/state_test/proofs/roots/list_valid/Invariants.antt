@@ -1,0 +1,18 @@
+use mathlib.Core.Path.{◌≡◌}
+use mathlib.Core.List.{List}
+use Prim.Native.Nat.{ℕ, ◌-◌}
+use lib.ListN.{drop}
+use Rattle.tables.specs.Lists.{all_of}
+use Rattle.tables.specs.Records.{list_of}
+use Rattle.tables.specs.ModelTable.{model_of}
+use Rattle.tables.specs.SchemaTable.{schema_of}
+use Rattle.state_test.specs.StateTest.{item_valid, fixed_in, FoundRow}
+use Rattle.state_test.proofs.roots.list_valid.Given as goal
+
+abbrev pub invariant-loop-i : goal.invariant-loop-i
+invariant-loop-i l =
+    ((deck : List ℕ) → all_of (item_valid (fixed_in deck l.schema l.elements) l.p) (drop l.i (list_of (model_of l.model) l.p)) ≡ all_of (item_valid (fixed_in deck l.schema l.elements) l.p) (list_of (model_of l.model) l.p))
+    × FoundRow (schema_of l.schema) l.last
+
+abbrev pub decreases-loop-i : goal.decreases-loop-i
+decreases-loop-i l = l.n - l.i
