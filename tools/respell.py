@@ -11,7 +11,7 @@ import sys
 
 TOKEN = re.compile(r"[\w'·₀-₉-]+")
 # Lemmas (and local facts) whose names would fall together with a definition's new name.
-LEMMAS = ["by_answer", "found_in", "no_place", "not_root", "parts_from", "row_count", "rows_few", "text_in"]
+LEMMAS = ["by_answer", "found_in", "no_place", "not_root", "parts_from", "row_count", "rows_few", "text_in", "distinct_from", "take_out", "tables_after"]
 LEMMA = re.compile(r"(?<![\w'·.₀-₉-])(" + "|".join(LEMMAS) + r")(?![\w'·₀-₉-])")
 
 
@@ -28,7 +28,7 @@ def turn(t):
 
 
 def outside_strings(t):
-    """A .rt file's text: what stands between double quotes stays."""
+    """What stands between double quotes stays."""
     return "".join(s if i % 2 else turn(s) for i, s in enumerate(re.split(r'(b?"(?:\\.|[^"\\\n])*")', t)))
 
 
@@ -39,11 +39,8 @@ def main():
             old = f.read()
         new = old
         if p.endswith(".antt"):
-            new = turn(LEMMA.sub(r"\1_lem", new))
-        elif p.endswith(".edit"):
-            new = turn(new)
-        else:
-            new = outside_strings(new)
+            new = LEMMA.sub(r"\1_lem", new)
+        new = outside_strings(new)
         if new != old:
             n += 1
             with open(p, "w", encoding="utf-8") as f:

@@ -16,7 +16,7 @@ use Rattle.merge_rules.proofs.Laws.Invariant.{Inv}
 use Rattle.merge_rules.proofs.Laws.Loaded.{load-inv}
 use Rattle.merge_rules.proofs.Laws.Merges.{merge-inv, waiting-tree}
 use Rattle.merge_rules.proofs.Laws.Reached.{each-once}
-use Rattle.merge_rules.proofs.Laws.TableCalls.{loaded-tables, tables_after}
+use Rattle.merge_rules.proofs.Laws.TableCalls.{loaded-tables, tables_after_lem}
 use Rattle.merge_rules.proofs.Laws.Visited.{visits-few}
 use Rattle.merge_rules.proofs.Laws.Withdrawal.{reached}
 use Rattle.merge_rules.proofs.TableWithdrawal.{stays-holding}
@@ -41,7 +41,7 @@ few-visited-on-tables deck t =
     loaded-tables deck t (λ (u : Tables). (cs : List Call) → FewVisitedOn deck (tables_after deck cs u))
     (λ x s h cs.
     let holding = stays-holding deck x s h in
-    rw (tables_after holding cs, (holding.after cs).fixed, (holding.after cs).state)
+    rw (tables_after_lem holding cs, (holding.after cs).fixed, (holding.after cs).state)
     (record { reached = reached-once deck x s h cs; visited = merges-visit-few deck x s h cs }))
 
 -- the rows, each by computation

@@ -29,7 +29,7 @@ call_rows =
     -- a merge, its log, and taken back: the deck's model
     on_example (bytes "merge,1\nlog\nrollback,0\nmodel\n")
     (merged_line ++ bytes "log,4\nrestriction,1,0\nimport,3,0,2,0\nimport,4,0,2,0\nextension,0,1\n" ++ bytes "rolledback,0,4\n"
-    ++ bytes "E,0,0,1\n_e,1,3,0\n_c,2,s,p\n")
+    ++ bytes "E,0,0,1\nE,1,3,0\nC,2,s,p\n")
     -- The marks are 0 and 4. The content's paths are 0, 0, 1: path 0 goes to places 0 to 2. There are 5 elements. Taken back, the tree
     -- waits again.
     ∷ on_example (bytes "merge,1\nrollback,3\nrollback,4\nrange,0,3,2\nrange,9,3,2\nrollback,0\nmerge,1\n")
@@ -40,7 +40,7 @@ call_rows =
     (merged_line ++ bytes "refused,1,5,-,-\nrange-refused,0,9,2,7,0,9\nrange-refused,1,3,2,12,1,-\n")
     -- the deck's own trees; a merged tree waits no more
     ∷ on_example (bytes "trees\nmerge,1\ntrees\n")
-    (bytes "M\n_e,0,0,1\n_e,1,3,0\n_c,2,s,p\n" ++ bytes "B,1\n_e,0,0,0\n_e,1,3,0\n_c,2,s,q\n_e,1,4,0\n_c,2,u,7\n" ++ merged_line ++ bytes "M\n"
+    (bytes "M\nE,0,0,1\nE,1,3,0\nC,2,s,p\n" ++ bytes "B,1\nE,0,0,0\nE,1,3,0\nC,2,s,q\nE,1,4,0\nC,2,u,7\n" ++ merged_line ++ bytes "M\n"
     ++ example_merged)
     -- a leading zero ends the run,
     ∷ on_example (bytes "merge,1\nmerge,01\nmodel\n") (merged_line ++ bytes "calls,2\n")
@@ -54,7 +54,7 @@ call_rows =
     -- no call, no line
     ∷ on_example [] []
     -- a refused deck: its last root is missing
-    ∷ record { deck = bytes "T,0,0,0,0\n_f,0,0\n_m\n"; calls = bytes "model\n"; text = bytes "deck,3,3\n" }
+    ∷ record { deck = bytes "T,0,0,0,0\nF,0,0\nM\n"; calls = bytes "model\n"; text = bytes "deck,3,3\n" }
     ∷ []
 
 abbrev pub CallRowsPrint : Type 0

@@ -81,7 +81,7 @@ PrintsBack =
 -- A deck that loads and does not print back: E,2 belongs to the element before the text of C,1, and is printed before that text.
 abbrev pub overtaken : List ℕ
 overtaken =
-    bytes "T,0,3,0,0\n_t,1,2,0,0\n_s,0,0,1,1,2,1\n_s,1,0,2,1,2,1\n_f,0,0\n_m\n_e,0,0,1\n_e,1,1,1\n_c,1,s,a\n_e,2,2,1\n"
+    bytes "T,0,3,0,0\nT,1,2,0,0\nS,0,0,1,1,2,1\nS,1,0,2,1,2,1\nF,0,0\nM\nE,0,0,1\nE,1,1,1\nC,1,s,a\nE,2,2,1\n"
 
 abbrev pub PrintsOvertaken : Type 0
-PrintsOvertaken = (in_order (lines overtaken) ≡ false) × (output overtaken ≡ bytes "E,0,0,1\n_e,1,1,1\n_e,2,2,1\n_c,1,s,a\n")
+PrintsOvertaken = (in_order (lines overtaken) ≡ false) × (output overtaken ≡ bytes "E,0,0,1\nE,1,1,1\nE,2,2,1\nC,1,s,a\n")

@@ -65,18 +65,18 @@ pub data AllHold : List Row → Type 0 where
 
 abbrev pub example : List ℕ
 example =
-    bytes "T,0,0,0,f\n_t,1,4,0,0\n_s,0,0,3,1,2,f\n_s,0,1,4,1,0,f\n_f,0,2\n_f,1,3\n" ++ bytes "M\n_e,0,0,1\n_e,1,3,0\n_c,2,s,p\n"
-    ++ bytes "B,1\n_e,0,0,0\n_e,1,3,0\n_c,2,s,q\n_e,1,4,0\n_c,2,u,7\n"
+    bytes "T,0,0,0,f\nT,1,4,0,0\nS,0,0,3,1,2,f\nS,0,1,4,1,0,f\nF,0,2\nF,1,3\n" ++ bytes "M\nE,0,0,1\nE,1,3,0\nC,2,s,p\n"
+    ++ bytes "B,1\nE,0,0,0\nE,1,3,0\nC,2,s,q\nE,1,4,0\nC,2,u,7\n"
 
 abbrev pub example_merged : List ℕ
-example_merged = bytes "E,0,0,3\n_e,1,3,1\n_c,2,s,p\n_e,1,3,2\n_c,2,s,q\n_e,1,4,2\n_c,2,u,7\n"
+example_merged = bytes "E,0,0,3\nE,1,3,1\nC,2,s,p\nE,1,3,2\nC,2,s,q\nE,1,4,2\nC,2,u,7\n"
 
 abbrev pub example_rows : List Row
 example_rows =
     -- the example
     prints example (bytes "merged,1,2,1,1\n" ++ example_merged)
     -- Rolled back to 0 or 4 (its length): the deck's model, or no change;
-    ∷ gives example (call_merge 1 ∷ call_rollback 0 ∷ []) (counts 2 1 1 ∷ off 4 ∷ []) (bytes "E,0,0,1\n_e,1,3,0\n_c,2,s,p\n")
+    ∷ gives example (call_merge 1 ∷ call_rollback 0 ∷ []) (counts 2 1 1 ∷ off 4 ∷ []) (bytes "E,0,0,1\nE,1,3,0\nC,2,s,p\n")
     ∷ gives example (call_merge 1 ∷ call_rollback 4 ∷ []) (counts 2 1 1 ∷ off 0 ∷ []) example_merged
     -- to 3 or 5: 14.
     ∷ gives example (call_merge 1 ∷ call_rollback 3 ∷ []) (counts 2 1 1 ∷ refusal 14 none none ∷ []) example_merged
@@ -88,10 +88,10 @@ example_rows =
 -- a root of this mode with rows at paths 0, 1 and 2, the one at path 1 of this mult
 abbrev pub range_deck : List ℕ → List ℕ → List ℕ → List ℕ
 range_deck mode mult model =
-    bytes "T,0," ++ mode ++ bytes ",0,0\n_t,1,4,0,0\n_s,0,0,3,1,2,f\n_s,0,1,4,1," ++ mult ++ bytes ",f\n_s,0,2,5,1,2,f\n_f,0,2\n_m\n" ++ model
+    bytes "T,0," ++ mode ++ bytes ",0,0\nT,1,4,0,0\nS,0,0,3,1,2,f\nS,0,1,4,1," ++ mult ++ bytes ",f\nS,0,2,5,1,2,f\nF,0,2\nM\n" ++ model
 
 abbrev pub paths012 : List ℕ
-paths012 = bytes "E,0,0,1\n_e,1,3,0\n_e,1,4,0\n_e,1,5,0\n"
+paths012 = bytes "E,0,0,1\nE,1,3,0\nE,1,4,0\nE,1,5,0\n"
 
 abbrev pub range_row : List ℕ → List ℕ → List ℕ → Numbered → Row
 range_row mode mult model answer = gives (range_deck mode mult model) (call_range 0 4 2 ∷ []) (answer ∷ []) model
@@ -105,7 +105,7 @@ range_rows =
     -- Empty sequence: (0, 0).
     ∷ range_row (bytes "0") (bytes "2") (bytes "E,0,0,1\n") (places_between 0 0)
     -- Choice holding another path: 13; bag of 3: (0, 3).
-    ∷ range_row (bytes "1") (bytes "2") (bytes "E,0,0,1\n_e,1,3,0\n") (refusal 13 (some 0) none)
+    ∷ range_row (bytes "1") (bytes "2") (bytes "E,0,0,1\nE,1,3,0\n") (refusal 13 (some 0) none)
     ∷ range_row (bytes "2") (bytes "2") paths012 (places_between 0 3)
     ∷ []
 
@@ -114,14 +114,14 @@ range_rows =
 -- a sequence, splittable as numbered, of named elements 3 with a SHORT-NAME each
 abbrev pub named_deck : List ℕ → List ℕ → List ℕ → List ℕ
 named_deck split model tree =
-    bytes "T,0,0,0," ++ split ++ bytes "\n_t,1,0,1,0\n_t,2,4,0,0\n_s,0,0,3,1,2,f\n_s,1,0,1,2,1,f\n_f,0,2\n_f,1,3\n_m\n_e,0,0,1\n" ++ model
-    ++ bytes "B,1\n_e,0,0,0\n" ++ tree
+    bytes "T,0,0,0," ++ split ++ bytes "\nT,1,0,1,0\nT,2,4,0,0\nS,0,0,3,1,2,f\nS,1,0,1,2,1,f\nF,0,2\nF,1,3\nM\nE,0,0,1\n" ++ model
+    ++ bytes "B,1\nE,0,0,0\n" ++ tree
 
 abbrev pub named_x : List ℕ
-named_x = bytes "E,1,3,0\n_e,2,1,0\n_c,3,s,x\n"
+named_x = bytes "E,1,3,0\nE,2,1,0\nC,3,s,x\n"
 
 abbrev pub named_y : List ℕ
-named_y = bytes "E,1,3,0\n_e,2,1,0\n_c,3,s,y\n"
+named_y = bytes "E,1,3,0\nE,2,1,0\nC,3,s,y\n"
 
 abbrev pub named_rows : List Row
 named_rows =
@@ -131,23 +131,23 @@ named_rows =
     ∷ gives (named_deck (bytes "0") named_x named_y) (call_merge 1 ∷ []) (refusal 6 (some 0) none ∷ []) (bytes "E,0,0,1\n" ++ named_x)
     -- or both kept if splittable.
     ∷ gives (named_deck (bytes "f") named_x named_y) (call_merge 1 ∷ []) (counts 1 1 1 ∷ [])
-    (bytes "E,0,0,3\n_e,1,3,1\n_e,2,1,0\n_c,3,s,x\n_e,1,3,2\n_e,2,1,0\n_c,3,s,y\n")
+    (bytes "E,0,0,3\nE,1,3,1\nE,2,1,0\nC,3,s,x\nE,1,3,2\nE,2,1,0\nC,3,s,y\n")
     ∷ []
 
 -- ---- definitions
 
 abbrev pub defined_d : List ℕ
-defined_d = bytes "E,1,3,0\n_e,2,2,0\n_c,3,s,d\n"
+defined_d = bytes "E,1,3,0\nE,2,2,0\nC,3,s,d\n"
 
 abbrev pub defined_e : List ℕ
-defined_e = bytes "E,1,3,0\n_e,2,2,0\n_c,3,s,e\n"
+defined_e = bytes "E,1,3,0\nE,2,2,0\nC,3,s,e\n"
 
 abbrev pub definition_rows : List Row
 definition_rows =
     -- Definitions d, d against e, d: 8. The delivered d is element 8.
     gives
-    (bytes "T,0,0,0,f\n_t,1,0,0,0\n_t,2,4,0,0\n_s,0,0,3,1,2,f\n_s,1,0,2,2,1,f\n_f,0,2\n_f,1,3\n_m\n_e,0,0,1\n" ++ defined_d ++ defined_d
-    ++ bytes "B,1\n_e,0,0,0\n" ++ defined_e ++ defined_d)
+    (bytes "T,0,0,0,f\nT,1,0,0,0\nT,2,4,0,0\nS,0,0,3,1,2,f\nS,1,0,2,2,1,f\nF,0,2\nF,1,3\nM\nE,0,0,1\n" ++ defined_d ++ defined_d
+    ++ bytes "B,1\nE,0,0,0\n" ++ defined_e ++ defined_d)
     (call_merge 1 ∷ []) (refusal 8 (some 8) none ∷ []) (bytes "E,0,0,1\n" ++ defined_d ++ defined_d)
     ∷ []
 
@@ -156,15 +156,15 @@ definition_rows =
 -- unnamed n, a choice of c1 and c2, in a splittable sequence; the row of n is of this mult
 abbrev pub choice_deck : List ℕ → List ℕ
 choice_deck mult =
-    bytes "T,0,0,0,f\n_t,1,1,0,0\n_t,2,4,0,0\n_s,0,0,3,1," ++ mult ++ bytes ",f\n_s,1,0,4,2,0,f\n_s,1,1,5,2,0,f\n_f,0,2\n_f,1,3\n"
-    ++ bytes "M\n_e,0,0,1\n_e,1,3,0\n_e,2,4,0\n_b,1\n_e,0,0,0\n_e,1,3,0\n_e,2,5,0\n"
+    bytes "T,0,0,0,f\nT,1,1,0,0\nT,2,4,0,0\nS,0,0,3,1," ++ mult ++ bytes ",f\nS,1,0,4,2,0,f\nS,1,1,5,2,0,f\nF,0,2\nF,1,3\n"
+    ++ bytes "M\nE,0,0,1\nE,1,3,0\nE,2,4,0\nB,1\nE,0,0,0\nE,1,3,0\nE,2,5,0\n"
 
 abbrev pub choice_rows : List Row
 choice_rows =
     -- Unnamed n with c1 against n with c2 in a choice, mult 2, parent splittable: both n, counts 1, 1, 1;
-    gives (choice_deck (bytes "2")) (call_merge 1 ∷ []) (counts 1 1 1 ∷ []) (bytes "E,0,0,3\n_e,1,3,1\n_e,2,4,0\n_e,1,3,2\n_e,2,5,0\n")
+    gives (choice_deck (bytes "2")) (call_merge 1 ∷ []) (counts 1 1 1 ∷ []) (bytes "E,0,0,3\nE,1,3,1\nE,2,4,0\nE,1,3,2\nE,2,5,0\n")
     -- with mult 0: 6 at A's n.
-    ∷ gives (choice_deck (bytes "0")) (call_merge 1 ∷ []) (refusal 6 (some 1) none ∷ []) (bytes "E,0,0,1\n_e,1,3,0\n_e,2,4,0\n")
+    ∷ gives (choice_deck (bytes "0")) (call_merge 1 ∷ []) (refusal 6 (some 1) none ∷ []) (bytes "E,0,0,1\nE,1,3,0\nE,2,4,0\n")
     ∷ []
 
 -- ---- Starred rows form one list, proved together of the rules.

@@ -64,9 +64,9 @@ module _ (x : Fixed) where
 
   -- ---- undoing
 
-  take_out : (e p : Element) (m : Model) (l : Log) → OneDeeper (record { model = m; log = l }) → OneDeeper (record { model = take_out e p m; log = l })
+  take_out_lem : (e p : Element) (m : Model) (l : Log) → OneDeeper (record { model = m; log = l }) → OneDeeper (record { model = take_out e p m; log = l })
   unfolding take_out remove_item put_list
-  take_out e p m l h =
+  take_out_lem e p m l h =
       option-case (λ (k : Model). (q c : Element) → In (child c) (list_of k q) → depth_of x c ≡ suc (depth_of x q)) (first_place_of e (list_of m p)) (λ _. h)
       (λ i _ q c.
       get_d_set (λ (k : List Item). In (child c) k → depth_of x c ≡ suc (depth_of x q)) m.lists p (remove_at (list_of m p) i) [] q
@@ -74,7 +74,7 @@ module _ (x : Fixed) where
 
   undo-keeps : (a : Entry) (m : Model) (l : Log) → OneDeeper (record { model = m; log = l }) → OneDeeper (record { model = undo a m; log = l })
   unfolding undo put_parent put_set
-  undo-keeps (import e p old_parent old_set) m l h = take_out e p m l h
+  undo-keeps (import e p old_parent old_set) m l h = take_out_lem e p m l h
   undo-keeps (restriction e old_set) m l h = h
   undo-keeps (extension e f) m l h = h
 

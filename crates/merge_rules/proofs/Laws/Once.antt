@@ -101,7 +101,7 @@ once-below (suc n) l o h = omega (arith, without-few n o, once-below n (without 
 pub once-within : {l : List ℕ} (k : List ℕ) → Once l → Within l k → length l ≤ length k
 once-within [] once-nil w = zero-le
 once-within [] (once-cons h o) w = absurd (Memᴰ.not-nil (within-head w))
-once-within {l} (y ∷ k) o w = omega (arith, without-few y o, once-within k (once-keep _ o) rest)
+once-within {l} (y ∷ k) o w = omega (arith, without-few y o, once-within {l = without y l} k (once-keep _ o) rest)
   where
     rest : Within (without y l) k
     rest a i =

@@ -118,16 +118,16 @@ module _ {deck : List ℕ} {x : Fixed} where
   later-calls h c = stays_after h (c ∷ [])
 
   -- the tables behind a list of calls
-  pub tables_after : {s : State} → StaysHolding deck x s → (cs : List Call) → tables_after deck cs (encoded x s) ≡ encoded x (state_after x cs s)
+  pub tables_after_lem : {s : State} → StaysHolding deck x s → (cs : List Call) → tables_after deck cs (encoded x s) ≡ encoded x (state_after x cs s)
   unfolding tables_after state_after
-  tables_after h [] = refl
-  tables_after h (c ∷ cs) = rw (first-call h c) (tables_after (later-calls h c) cs)
+  tables_after_lem h [] = refl
+  tables_after_lem {s = s} h (c ∷ cs) = rw (first-call h c) (tables_after_lem {s = (call x c s).state} (later-calls h c) cs)
 
   -- its answers
   history-after : {s : State} → StaysHolding deck x s → (cs : List Call) → history_on deck cs (encoded x s) ≡ map from_rules (history x cs s)
   unfolding history_on history
   history-after h [] = refl
-  history-after h (c ∷ cs) = rw (first-call h c, history-after (later-calls h c) cs)
+  history-after {s = s} h (c ∷ cs) = rw (first-call h c, history-after {s = (call x c s).state} (later-calls h c) cs)
 
 -- ---- answers
 
@@ -162,5 +162,5 @@ withdrawn-encoded {x = x} {at_mark = at_mark} ds es h w =
 pub withdrawn-on : {deck : List ℕ} {x : Fixed} {s : State} → StaysHolding deck x s → WithdrawnFrom x s → TablesWithdrawnFrom deck (encoded x s)
 withdrawn-on {deck = deck} {x = x} {s = s} h w before after =
     let h₁ = stays_after h before in
-    rw (tables_after h before, history-after h before, tables_after h₁ after, history-after h₁ after, answers-back, log_back)
+    rw (tables_after_lem h before, history-after h before, tables_after_lem h₁ after, history-after h₁ after, answers-back, log_back)
     (λ high. withdrawn-encoded (history x before s) (history x after (state_after x before s)) (h₁.after after) (w before after high))

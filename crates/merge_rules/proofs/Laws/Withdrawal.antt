@@ -119,7 +119,7 @@ module _ (x : Fixed) (Inv : State → Type 0)
   stack-calls [] st h = st
   stack-calls {s₀} {s} (c ∷ cs) st h =
       let (first, rest) = any_of-cons _ _ (history x cs (call x c s).state) h in
-      stack-calls cs (stack-call c st first) rest
+      stack-calls {s = (call x c s).state} cs (stack-call c st first) rest
 
   -- from an empty log, with an empty book
   module _ (s : State) (empty : s.log ≡ []) (i : Inv s) where
