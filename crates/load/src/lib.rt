@@ -1,5 +1,6 @@
 // Load: the lines of a deck, stored in the lent tables.
 #![tactic(auto)]
+
 pub mod load;
 mod progress;
 mod schema_lines;

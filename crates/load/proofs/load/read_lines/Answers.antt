@@ -1,0 +1,59 @@
+use mathlib.Core.Path.{sym, ◌∙◌}
+use native.Mathlib.Omega.{arith}
+use borrow.Author.Rules.{rules}
+use Rattle.load.proofs.Laws.Reading.{reading-start, reading-open, reading-taken, reading-refused, reading-end}
+use Rattle.load.proofs.load.read_lines.Goals as goal
+
+pub loop-at-init : goal.loop-at-init
+loop-at-init c =
+    reading-start c.args.deck.now c.args.schema.now c.args.elements.now c.args.model.now _ c.requires.deck_len_bound
+    c.requires.holds_schema c.requires.holds_elements
+    c.requires.holds_model c.start-p.ensures
+
+pub overflow_add-number : goal.overflow_add-number
+overflow_add-number c =
+    let i = c.loop-at.invariant in
+    search rules
+
+pub line_from-requires : goal.line_from-requires
+line_from-requires c = (c.requires.deck_len_bound, c.loop-at.invariant.within)
+
+pub returns-in_default : goal.returns-in_default
+returns-in_default c =
+    reading-open c.args.deck.now c.loop-at.p c.loop-at.at c.loop-at.n c.loop-at.schema c.loop-at.elements c.loop-at.model
+    c.loop-at.invariant c.loop-at-test.true (rw c.in_default.is at c.line_from.ensures)
+
+pub load_line-s-requires : goal.load_line-s-requires
+load_line-s-requires c =
+    let f = rw c.in-Whole.is at c.line_from.ensures in record { good_loading = c.loop-at.invariant.good; line_fits = f.reads.fits }
+
+pub shape_of-schema-in-Refused : goal.shape_of-schema-in-Refused
+shape_of-schema-in-Refused c = c.load_line-s.ensures.good.good_schema.size ∙ sym c.requires.holds_schema.good.size
+
+pub shape_of-elements-in-Refused : goal.shape_of-elements-in-Refused
+shape_of-elements-in-Refused c = c.load_line-s.ensures.good.good_elements.size ∙ sym c.requires.holds_elements.good.size
+
+pub shape_of-model-in-Refused : goal.shape_of-model-in-Refused
+shape_of-model-in-Refused c = c.load_line-s.ensures.good.good_model.size ∙ sym c.requires.holds_model.good.size
+
+pub returns-in-Refused : goal.returns-in-Refused
+returns-in-Refused c =
+    let f = rw c.in-Whole.is at c.line_from.ensures in
+    reading-refused c.args.deck.now c.loop-at.p c.loop-at.at c.loop-at.n c.loop-at.schema c.loop-at.elements c.loop-at.model
+    c.loop-at.invariant _ _ f _ _ _ _ c.load_line-s.ensures _ c.in-Refused.is
+
+pub loop-at-smaller : goal.loop-at-smaller
+loop-at-smaller c =
+    let f = rw c.in-Whole.is at c.line_from.ensures in
+    omega (arith, f.next.past, f.is, c.loop-at-test.true)
+
+pub loop-at-preserved : goal.loop-at-preserved
+loop-at-preserved c =
+    let f = rw c.in-Whole.is at c.line_from.ensures in
+    reading-taken c.args.deck.now c.loop-at.p c.loop-at.at c.loop-at.n c.loop-at.schema c.loop-at.elements c.loop-at.model
+    c.loop-at.invariant _ _ f _ _ _ _ c.load_line-s.ensures c.in_default-v.is
+
+pub returns : goal.returns
+returns c =
+    reading-end c.args.deck.now c.loop-at.p c.loop-at.at c.loop-at.n c.loop-at.schema c.loop-at.elements c.loop-at.model _
+    c.loop-at.invariant c.loop-at-test.false (c.finish.ensures _ _ _ _)

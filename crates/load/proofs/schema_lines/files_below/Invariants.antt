@@ -1,0 +1,18 @@
+use mathlib.Core.Path.{◌≡◌}
+use Prim.Native.Nat.{ℕ, ◌-◌}
+use mathlib.Core.Bool.{Bool}
+use lib.Dec.{ltb}
+use lib.ListN.{drop}
+use Rattle.tables.specs.Lists.{all_of}
+use Rattle.tables.specs.Records.{File}
+use Rattle.tables.specs.SchemaTable.{schema_of}
+use Rattle.load.proofs.schema_lines.files_below.Given as goal
+
+abbrev below : ℕ → File → Bool
+below f d = ltb d.file f
+
+abbrev pub invariant-loop-i : goal.invariant-loop-i
+invariant-loop-i l = all_of (below l.f.0) (drop l.i (schema_of l.schema).files) ≡ all_of (below l.f.0) (schema_of l.schema).files
+
+abbrev pub decreases-loop-i : goal.decreases-loop-i
+decreases-loop-i l = l.n - l.i

@@ -1,0 +1,54 @@
+use mathlib.Core.Path.{sym, subst, ◌∙◌}
+use native.Mathlib.Omega.{arith}
+use Rattle.tables.specs.Records.{add_sub_element}
+use Rattle.tables.specs.SchemaTable.{schema_of}
+use Rattle.deck.specs.Answers.{row_is}
+use Rattle.schema_calls.specs.Calls.{PathsClosed}
+use Rattle.schema_calls.proofs.Laws.Schemas.{rows_all}
+use Rattle.load.proofs.Laws.SchemaLines.{step-schema, s-row, row-late, row-limit, row-broken, row-taken, row-rule-is, fits-row}
+use Rattle.load.proofs.Laws.Steps.{line_refused}
+use Rattle.load.proofs.schema_lines.load_s.Goals as goal
+
+pub returns-then-p-gt-KIND_S : goal.returns-then-p-gt-KIND_S
+returns-then-p-gt-KIND_S c elements model g =
+    line_refused _ _ _ elements model _ 1 c.refuse.ensures g
+    (s-row _ _ ∙ row-late _ _ _ _ _ _ c.if-p-gt-KIND_S.true)
+
+pub returns-then-n-ge-ROW_LIMIT : goal.returns-then-n-ge-ROW_LIMIT
+returns-then-n-ge-ROW_LIMIT c elements model g =
+    line_refused _ _ _ elements model _ 4 c.refuse-then-n-ge-ROW_LIMIT.ensures g
+    (s-row _ _ ∙ row-limit _ _ _ _ _ _ c.if-p-gt-KIND_S.false (rw c.row_count-n.ensures at c.if-n-ge-ROW_LIMIT.true))
+
+pub sub_element_rule-requires : goal.sub_element_rule-requires
+sub_element_rule-requires c =
+    let closed = subst PathsClosed (sym (rows_all (schema_of c.args.schema.now) _ c.row_count-n.ensures)) c.requires.paths_closed in
+    record {
+      good_schema = c.requires.good_schema;
+      above_in_bounds = omega (arith, c.row_count-n.ensures);
+      paths_closed = closed;
+      nonzero = c.requires.mult_bound.1;
+      repeated_value = c.rows_meet-repeated.ensures;
+    }
+
+pub returns-then-not-sub_element_rule : goal.returns-then-not-sub_element_rule
+returns-then-not-sub_element_rule c elements model g =
+    let rule =
+    row-rule-is (schema_of c.args.schema.now) _ (row_is c.args.c) _ _ c.row_count-n.ensures c.sub_element_rule.ensures
+    (c.if-not-sub_element_rule.true)
+    in
+    line_refused _ _ _ elements model _ 2 c.refuse-then-not-sub_element_rule.ensures g
+    (s-row _ _ ∙ row-broken _ _ _ _ _ _ c.if-p-gt-KIND_S.false (rw c.row_count-n.ensures at c.if-n-ge-ROW_LIMIT.false) rule)
+
+pub returns : goal.returns
+returns c elements model g =
+    let xs = c.args.schema.now in
+    let rule =
+    row-rule-is (schema_of c.args.schema.now) _ (row_is c.args.c) _ _ c.row_count-n.ensures c.sub_element_rule.ensures
+    (c.if-not-sub_element_rule.false)
+    in
+    step-schema c.args.p c.take_line.result xs _ elements model _ 2 (add_sub_element (schema_of xs) (row_is c.args.c))
+    (c.take_line.ensures.0, c.take_line.ensures.1 ∙ c.after.ensures)
+    g
+    c.add_row.ensures
+    (fits-row _ g.fits _ c.requires.mult_bound.1 rule)
+    (s-row _ _ ∙ row-taken _ _ _ _ _ _ c.if-p-gt-KIND_S.false (rw c.row_count-n.ensures at c.if-n-ge-ROW_LIMIT.false) rule)
