@@ -1,5 +1,5 @@
 -- The place of an element in a content list, as the code answers it. Assumes nothing.
-use Rattle.std.specs.Prelude.{Bool, false, List, ◌≡◌, ℕ, ◌<◌, eqb, length}
+use Rattle.std.specs.Prelude.{Bool, false, List, ◌≡◌, ℕ, eqb, length}
 use Rattle.std.proofs.Math.Option.{Option, none, some}
 use Rattle.tables.specs.Records.{Element, Item, child, text}
 use Rattle.schema_calls.specs.Calls.{FoundWithin}

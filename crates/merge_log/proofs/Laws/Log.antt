@@ -1,11 +1,11 @@
 -- Restrictions, extensions and marks on the lent tables. Assumes nothing.
 use mathlib.Core.Bool.{true, false}
-use mathlib.Core.List.{List, [], ◌∷◌}
+use mathlib.Core.List.{List, ◌∷◌}
 use mathlib.Core.Path.{◌≡◌, refl, sym, ap, ◌∙◌}
 use Prim.Native.Nat.{ℕ, zero, suc, ◌-◌, ◌≤◌, ◌<◌}
 use native.Mathlib.Omega.{arith}
 use borrow.Author.Tests.{lt-ltb, le-ltb}
-use lib.ListN.{length, get_or, drop}
+use lib.ListN.{length}
 use lib.Seq.{drop-cons}
 use Rattle.tables.specs.FileSets.{holds, with_file}
 use Rattle.tables.specs.Limits.{log_limit}
@@ -16,7 +16,7 @@ use Rattle.table_test.specs.LogTest.{EntryIn}
 use Rattle.state_test.specs.StateTest.{state_in}
 use Rattle.merge_rules.specs.Log.{change, restrict, extend, is_root_extension, ends_merge, is_mark}
 use Rattle.merge_rules.specs.Refusals.{done, refused, log_full}
-use Rattle.table_test.specs.Fits.{StateFits, KeepsState}
+use Rattle.table_test.specs.Fits.{KeepsState}
 use Rattle.table_test.proofs.Laws.Fits.{fits-set, fits-push}
 
 -- ---- 9, or the change

@@ -1,9 +1,9 @@
 -- The search for an element's first place, from the front and from the back. Assumes nothing.
-use mathlib.Core.Bool.{Bool, true, false, false≢true}
-use mathlib.Core.List.{List, [], ◌∷◌}
+use mathlib.Core.Bool.{true, false, false≢true}
+use mathlib.Core.List.{List, ◌∷◌}
 use mathlib.Core.Option.{Option, none, some}
-use mathlib.Core.Path.{◌≡◌, refl, sym, ap, ◌∙◌, subst}
-use Prim.Native.Nat.{ℕ, zero, suc, ◌+◌, ◌-◌, ◌≤◌, ◌<◌}
+use mathlib.Core.Path.{◌≡◌, refl, sym, ap, ◌∙◌}
+use Prim.Native.Nat.{ℕ, suc, ◌+◌, ◌-◌, ◌≤◌, ◌<◌}
 use native.Mathlib.Nat.{add-zero, zero-add}
 use native.Mathlib.Numerals.{add-one}
 use native.Mathlib.Omega.{arith}
@@ -13,7 +13,7 @@ use Rattle.tables.specs.Records.{Element, Item, child, text}
 use Rattle.schema_calls.specs.declared.calls.Found.{Found}
 use Rattle.schema_calls.specs.declared.calls.Found.TheVariants.{At, Missing}
 use Rattle.merge_rules.specs.Log.{first_place_of}
-use Rattle.merge_log.specs.Places.{is_child, place_is, FirstPlace}
+use Rattle.merge_log.specs.Places.{is_child, FirstPlace}
 use Rattle.table_test.specs.ModelTest.{once_in}
 use Rattle.merge_log.proofs.Laws.Once.{once-first}
 

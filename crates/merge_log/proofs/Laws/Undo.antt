@@ -1,25 +1,25 @@
 -- Undoing on the lent tables: one entry, and the newest first down to a mark. Assumes nothing.
-use mathlib.Core.Bool.{Bool, true, false}
+use mathlib.Core.Bool.{Bool}
 use mathlib.Core.List.{List, [], ◌∷◌}
 use mathlib.Core.Option.{Option}
 use mathlib.Core.Path.{◌≡◌, refl, sym, ap, ◌∙◌, subst}
-use Prim.Native.Nat.{ℕ, zero, suc, ◌-◌, ◌≤◌, ◌<◌}
+use Prim.Native.Nat.{ℕ, suc, ◌-◌, ◌≤◌, ◌<◌}
 use native.Mathlib.Omega.{arith}
 use borrow.Author.Tests.{le-leb, lt-leb}
-use lib.ListN.{length, get_or, drop, length-drop}
+use lib.ListN.{length, drop, length-drop}
 use Rattle.tables.specs.Cells.{Each}
 use Rattle.tables.specs.FileSets.{without_file}
 use Rattle.tables.specs.Limits.{item_limit}
 use Rattle.tables.specs.LogTable.{log_of, GoodLog, HoldsLog, no_entry, entry_at}
 use Rattle.tables.specs.ModelTable.{count_of, model_of, ParentBelow, GoodModel, HoldsModel}
-use Rattle.tables.specs.Records.{Element, FileNumber, FileSet, Model, Entry, import, restriction, extension, Log, State, set_of, put_parent, put_set, put_list, remove_items}
+use Rattle.tables.specs.Records.{Element, FileNumber, FileSet, Model, Entry, import, restriction, extension, Log, set_of, put_parent, put_set, put_list, remove_items}
 use Rattle.tables.proofs.Laws.Cells.{each-get_d}
 use Rattle.tables.proofs.Laws.Model.{count-put_parent}
 use Rattle.table_test.specs.LogTest.{EntryIn}
 use Rattle.table_test.specs.ModelTest.{model_once}
 use Rattle.state_test.specs.StateTest.{state_in}
 use Rattle.merge_rules.specs.Log.{take_out, undo, undo_to, rollback_merge}
-use Rattle.table_test.specs.Fits.{ModelFits, LogFits, StateFits, KeepsModel, KeepsState}
+use Rattle.table_test.specs.Fits.{LogFits, KeepsModel, KeepsState}
 use Rattle.table_test.proofs.Laws.Fits.{good-fits, keeps-count, fits-set, fits-parent, fits-pop}
 use Rattle.merge_log.specs.Runs.{without_run, RunIn, OnceIf, Leads}
 use Rattle.merge_log.specs.declared.log.Run.{Run}

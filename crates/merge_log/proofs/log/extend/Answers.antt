@@ -1,0 +1,24 @@
+use Rattle.tables.specs.SetCells.{set_is}
+use mathlib.Core.Path.{sym, ◌∙◌}
+use Rattle.tables.specs.Records.{extension}
+use Rattle.merge_log.proofs.Laws.Log.{extend-held, extend-full, extend-done, keeps-change}
+use native.Mathlib.Omega.{arith}
+use borrow.Author.Rules.{rules}
+use Rattle.merge_log.proofs.log.extend.Goals as goal
+
+pub returns-then-holds : goal.returns-then-holds
+returns-then-holds c = record { log_after = extend-held c.args.model.now c.args.log.now c.args.e.0 c.args.f.0 (sym c.if-holds.true ∙ (rw c.set_of-old.ensures at c.holds.ensures)); keeps_state = λ n texts f. f }
+
+pub returns-then-log_length-ge-LOG_LIMIT : goal.returns-then-log_length-ge-LOG_LIMIT
+returns-then-log_length-ge-LOG_LIMIT c = record { log_after = extend-full c.args.model.now c.args.log.now c.args.e.0 c.args.f.0 (sym c.if-holds.false ∙ (rw c.set_of-old.ensures at c.holds.ensures)) (search rules); keeps_state = λ n texts f. f }
+
+pub returns : goal.returns
+returns c =
+    let m = c.args.model.now in
+    let l = c.args.log.now in
+    let e = c.args.e.0 in
+    let f = c.args.f.0 in record {
+      log_after = extend-done m l c.set_set.new.model c.push_entry.new.log (search rules) e f (set_is c.with.result)
+          (sym c.if-holds.false ∙ (rw c.set_of-old.ensures at c.holds.ensures)) c.push_entry.ensures (rw c.set_of-old.ensures at c.with.ensures) c.set_set.ensures;
+      keeps_state = keeps-change m l _ _ e (set_is c.with.result) (extension e f) (λ n z. (omega (arith, c.requires.e_bound), c.requires.f_lt_file_limit)) c.push_entry.ensures c.set_set.ensures;
+    }
