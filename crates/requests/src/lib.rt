@@ -1,3 +1,4 @@
 // The lines of a list of calls, read.
 #![tactic(auto)]
+
 pub mod requests;
