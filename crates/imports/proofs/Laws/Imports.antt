@@ -4,7 +4,6 @@ use mathlib.Core.Logic.{inl, inr}
 use mathlib.Core.Path.{◌≡◌, refl, sym, ap, subst, ◌∙◌}
 use Prim.Native.Nat.{ℕ, suc, ◌+◌, ◌-◌, ◌≤◌}
 use native.Mathlib.Omega.{arith}
-use types.Run.{OneOf}
 use denote.Enum.Declared.{tag_of}
 use lib.ListN.{length}
 use Rattle.tables.specs.ElementsTable.{elements_of}
@@ -61,20 +60,12 @@ pub then-done : (s : State) (k : State → Outcome) (o : step.Outcome) {q : Outc
 unfolding ◌>>=◌
 then-done s k o e d = rw (← e, d)
 
-pub then-stop : (s : State) (k : State → Outcome) (o : step.Outcome) {q : Outcome} → outcome_is o s ≡ q → OneOf (1 ∷ 2 ∷ []) (tag_of the_type o)
+pub then-stop : (s : State) (k : State → Outcome) (o : step.Outcome) {q : Outcome} → outcome_is o s ≡ q → (o ≡ Done → ⊥)
     → outcome_is o s ≡ (q >>= k)
 unfolding ◌>>=◌
-then-stop s k Done e (inl n) = absurd (omega arith)
-then-stop s k Done e (inr n) = absurd (omega arith)
+then-stop s k Done e n = absurd (n refl)
 then-stop s k (Conflict c) e n = rw (← e)
 then-stop s k (Refused r) e n = rw (← e)
-
-pub not_done : (o : step.Outcome) → OneOf (1 ∷ 2 ∷ []) (tag_of the_type o) → o ≡ Done → ⊥
-not_done o t d = none_of (subst (λ (x : step.Outcome). OneOf (1 ∷ 2 ∷ []) (tag_of the_type x)) d t)
-  where
-    none_of : OneOf (1 ∷ 2 ∷ []) (tag_of the_type Done) → ⊥
-    none_of (inl n) = omega arith
-    none_of (inr n) = omega arith
 
 -- ---- one list behind another
 
@@ -149,7 +140,7 @@ module _ (schema elements w : List ℕ) (na ni f v p : ℕ) (m₀ l₀ : List �
           let z : na + ni - (na + i) ≡ n + (na + ni - (na + i + n)) = omega arith in
           rw z (imports-rows (fixed_in deck schema elements) f v p w (na + i) i n (na + ni - (na + i + n)) (state_in m l))
 
-      pub imports-stop : OneOf (1 ∷ 2 ∷ []) (tag_of the_type o) → (deck : List ℕ)
+      pub imports-stop : (o ≡ Done → ⊥) → (deck : List ℕ)
           → outcome_is o (state_in m' l') ≡ import_new_items (fixed_in deck schema elements) f v p 0 (spread (import_in w) na ni) (state_in m₀ l₀)
       imports-stop t deck = then-stop (state_in m' l') _ o (is deck) t ∙ sym (here deck) ∙ k.left deck
 

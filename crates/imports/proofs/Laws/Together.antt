@@ -5,7 +5,6 @@ use mathlib.Core.Logic.{◌⊎◌, inl, inr}
 use mathlib.Core.Path.{◌≡◌, refl, sym, ap, ◌∙◌}
 use Prim.Native.Nat.{ℕ, suc, ◌+◌, ◌-◌, ◌≤◌, ◌<◌, zero-le}
 use native.Mathlib.Omega.{arith}
-use types.Run.{OneOf}
 use denote.Enum.Declared.{tag_of}
 use lib.ListN.{length}
 use Rattle.tables.specs.ElementsTable.{elements_of}
@@ -28,7 +27,7 @@ use Rattle.merge_log.specs.declared.log.Run.{Run}
 use Rattle.merge_log.specs.declared.refusals.Outcome as step
 use Rattle.merge_log.specs.declared.refusals.Outcome.TheVariants.{Done}
 use Rattle.merge_log.specs.contracts.refusals.Outcome.{the_type}
-use Rattle.imports.proofs.Laws.Imports.{then-done, then-stop, not_done}
+use Rattle.imports.proofs.Laws.Imports.{then-done, then-stop}
 use Rattle.merge_log.proofs.Laws.Runs.{remove-none}
 
 -- ---- a run of places, filled one by one
@@ -97,8 +96,8 @@ module _ (schema elements w : List ℕ) (na i f v : ℕ) (r : Run) (m₁ l₁ : 
           (ap (λ (t : Outcome). t >>= import_new_items (fixed_in deck schema elements) f v r.p.0 (suc (i + j)) (spread (import_in w) (suc (na + i + j)) rest)) single)
           ∙ (rw z at (k.left deck))
 
-      pub run-stop : OneOf (1 ∷ 2 ∷ []) (tag_of the_type o) → (deck : List ℕ) → outcome_is o (state_in m' l') ≡ whole_run deck
-      run-stop t deck = is.stateless (state_in m' l') _ (not_done o t) ∙ then-stop (state_without r.p.0 (r.i + (j + 1)) (r.k - (j + 1)) m' l') _ o refl t ∙ here deck
+      pub run-stop : (o ≡ Done → ⊥) → (deck : List ℕ) → outcome_is o (state_in m' l') ≡ whole_run deck
+      run-stop t deck = is.stateless (state_in m' l') _ t ∙ then-stop (state_without r.p.0 (r.i + (j + 1)) (r.k - (j + 1)) m' l') _ o refl t ∙ here deck
 
       pub run_more : o ≡ Done → RunLeft m' l' (j + 1)
       run_more d =

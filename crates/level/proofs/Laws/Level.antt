@@ -4,7 +4,6 @@ use mathlib.Core.Option.{Option, none, some}
 use mathlib.Core.Path.{◌≡◌, refl, sym, ap, ◌∙◌}
 use Prim.Native.Nat.{ℕ, suc, ◌+◌, ◌-◌, ◌*◌, ◌≤◌, ◌<◌}
 use native.Mathlib.Omega.{arith}
-use types.Run.{OneOf}
 use denote.Enum.Declared.{tag_of}
 use lib.ListN.{length, get_or, take}
 use lib.Seq.{get_or-take}
@@ -108,7 +107,7 @@ module _ (d : ℕ) (x : Fixed) (f : FileNumber) (files : FileSet) (a b : Element
 
       -- the restrictions and imports, with their answer and the state that they left
       module _ (na ni : ℕ) (rows : q ≡ Rows na ni) (t : State) (o : step.Outcome) (applied : outcome_is o t ≡ apply_plan x f files a (plan_in na ni w) s) where
-        pub level-stop : OneOf (1 ∷ 2 ∷ []) (tag_of the_type o) → outcome_is o t ≡ merge_element d x f files a b s
+        pub level-stop : (o ≡ Done → ⊥) → outcome_is o t ≡ merge_element d x f files a b s
         unfolding merge_level
         level-stop h = then-stop t _ o applied h ∙ sym (by-plan (level_plan (plan_in na ni w)) (rw rows))
 
@@ -260,7 +259,7 @@ module _ {lower : FileSet → Element → Element → State → Outcome} {deck s
       here =
           sym (rw (spread-here (pair_in w₀) i na h, mated (row_element w₀ i) (row_value w₀ i) (λ z. some (row-value ∙ z)), ← row-element, ← row-value)) ∙ k.left
 
-      pub pairs-stop : OneOf (1 ∷ 2 ∷ []) (tag_of the_type o)
+      pub pairs-stop : (o ≡ Done → ⊥)
           → outcome_is o (state_in m' l') ≡ merge_sub_elements lower (fixed_in deck schema elements) f v p files (plan_in na 0 w₀).pairs (state_in m₀ l₀)
       pairs-stop t = then-stop (state_in m' l') _ o is t ∙ here
 

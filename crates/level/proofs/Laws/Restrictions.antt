@@ -4,7 +4,6 @@ use mathlib.Core.List.{List, [], ◌∷◌}
 use mathlib.Core.Path.{◌≡◌, refl, sym, ◌∙◌}
 use Prim.Native.Nat.{ℕ, ◌+◌, ◌-◌, ◌≤◌, ◌<◌}
 use native.Mathlib.Omega.{arith}
-use types.Run.{OneOf}
 use denote.Enum.Declared.{tag_of}
 use lib.Dec.{eqb}
 use Rattle.tables.specs.FileSets.{no_set}
@@ -97,7 +96,7 @@ module _ (w : List ℕ) (na : ℕ) (files : FileSet) (m₀ l₀ : List ℕ) wher
             rw (spread-here (restriction_in w) i na h, restricted (row_element w i) (row_value w i) none)
             (restrict-cons files (row_element w i) (spread (restriction_in w) (i + 1) (na - (i + 1))) (state_in m l))
 
-        pub restricts-stop : OneOf (1 ∷ 2 ∷ []) (tag_of the_type o)
+        pub restricts-stop : (o ≡ Done → ⊥)
             → outcome_is o (state_in m' l') ≡ restrict_elements files (spread (restriction_in w) 0 na) (state_in m₀ l₀)
         restricts-stop t = then-stop (state_in m' l') _ o is t ∙ sym here ∙ k.left
 
@@ -114,7 +113,7 @@ module _ (w : List ℕ) (na : ℕ) (files : FileSet) (m₀ l₀ : List ℕ) wher
 
 module _ (x : Fixed) (f : FileNumber) (files : FileSet) (a : Element) (plan : Plan) (s t : State) (o : step.Outcome)
     (is : outcome_is o t ≡ restrict_elements files plan.restrictions s) where
-  pub apply-stop : OneOf (1 ∷ 2 ∷ []) (tag_of the_type o) → outcome_is o t ≡ apply_plan x f files a plan s
+  pub apply-stop : (o ≡ Done → ⊥) → outcome_is o t ≡ apply_plan x f files a plan s
   unfolding apply_plan
   apply-stop h = then-stop t _ o is h
 

@@ -4,7 +4,6 @@ use mathlib.Core.List.{List, [], ◌∷◌}
 use mathlib.Core.Option.{Option}
 use mathlib.Core.Path.{◌≡◌, sym, ◌∙◌}
 use Prim.Native.Nat.{ℕ, suc, ◌≤◌, ◌<◌}
-use types.Run.{OneOf}
 use denote.Enum.Declared.{tag_of}
 use borrow.Author.Tests.{eq-eqb}
 use lib.Dec.{eqb}
@@ -74,7 +73,7 @@ module _ (deck schema elements model : List ℕ) (n f : ℕ) where
 
 module _ (x : Fixed) (f b : ℕ) (s t : State) (files : FileSet) (o : step.Outcome) (same : files ≡ set_of s.model root)
     (is : outcome_is o t ≡ merge_element (suc depth_limit) x f files root b s) where
-  pub tree-stop : OneOf (1 ∷ 2 ∷ []) (tag_of the_type o) → outcome_is o t ≡ merge_tree x (record { file = f; root = b }) s
+  pub tree-stop : (o ≡ Done → ⊥) → outcome_is o t ≡ merge_tree x (record { file = f; root = b }) s
   unfolding merge_tree
   tree-stop n = then-stop t (extend root f) o (rw same at is) n
 

@@ -6,7 +6,6 @@ use mathlib.Core.Path.{◌≡◌, refl, ap, subst}
 use Prim.Native.Nat.{ℕ}
 use native.Mathlib.Omega.{arith}
 use denote.Enum.Declared.{tag_of}
-use types.Run.{OneOf}
 use Rattle.tables.specs.LogTable.{log_of, GoodLog}
 use Rattle.tables.specs.ModelTable.{model_of}
 use Rattle.tables.specs.Records.{State}
@@ -83,19 +82,14 @@ pub of-request : (P : Request → Type 0) (r : program.Request) (o : program.Req
 of-request P r o p g e h q k = let z : p ≡ q = cc in subst P z h
 
 -- a request that is not of another form stands for one
-pub not-bad : (r : program.Request) → OneOf (0 ∷ 1 ∷ 2 ∷ 3 ∷ 4 ∷ 5 ∷ []) (tag_of the_type r) → (q : Request) × (request_is r ≡ some q)
+pub not-bad : (r : program.Request) → (r ≡ Bad → ⊥) → (q : Request) × (request_is r ≡ some q)
 not-bad (Merge f) k = (of_call (call_merge f), refl)
 not-bad (Rollback mark) k = (of_call (call_rollback mark), refl)
 not-bad (Range e n v) k = (of_call (call_range e n v), refl)
 not-bad Model k = (of_model, refl)
 not-bad Trees k = (of_trees, refl)
 not-bad Log k = (of_log, refl)
-not-bad Bad (inl n) = absurd (omega arith)
-not-bad Bad (inr (inl n)) = absurd (omega arith)
-not-bad Bad (inr (inr (inl n))) = absurd (omega arith)
-not-bad Bad (inr (inr (inr (inl n)))) = absurd (omega arith)
-not-bad Bad (inr (inr (inr (inr (inl n))))) = absurd (omega arith)
-not-bad Bad (inr (inr (inr (inr (inr n))))) = absurd (omega arith)
+not-bad Bad k = absurd (k refl)
 
 -- one of another form stands for none
 pub bad-stands : (r : program.Request) (q : Request) → r ≡ Bad → request_is r ≡ some q → ⊥

@@ -7,7 +7,6 @@ use mathlib.Core.Path.{◌≡◌, sym, ap, ◌∙◌}
 use Prim.Native.Nat.{ℕ, ◌+◌}
 use native.Mathlib.Numerals.{add-one}
 use native.Mathlib.Omega.{arith}
-use types.Run.{OneOf}
 use denote.Enum.Declared.{tag_of}
 use borrow.Author.Tests.{not-true, not-false}
 use lib.Dec.{eqb}
@@ -104,10 +103,9 @@ module _ (x : Fixed) (f : FileNumber) (v : Version) (p : Element) (q : Pair) (e 
       rw (a, w) (sym (rw (import_instead, c)))
 
   pub instead-conflict : (r : range.Range) → range_is r ≡ calc_element_insert_range x s.model p (name_of x q.b) v
-      → OneOf (1 ∷ 2 ∷ []) (tag_of range-type r) → conflict e s ≡ import_instead x f v p q e s
+      → ((i j : ℕ) → r ≡ Places i j → ⊥) → conflict e s ≡ import_instead x f v p q e s
   unfolding import_instead
-  instead-conflict (Places i j) is (inl n) = absurd (omega arith)
-  instead-conflict (Places i j) is (inr n) = absurd (omega arith)
+  instead-conflict (Places i j) is n = absurd (n i j refl)
   instead-conflict NoRow is n = sym (rw (import_instead, ← is))
   instead-conflict Conflicting is n = sym (rw (import_instead, ← is))
 
@@ -118,7 +116,7 @@ module _ (x : Fixed) (f : FileNumber) (v : Version) (p : Element) (q : Pair) (e 
     unfolding fall_back
     fallen-on d = sym (then-done after (import_instead x f v p q e) o (rw rolled at is) d)
 
-    pub fallen-stop : OneOf (1 ∷ 2 ∷ []) (tag_of outcome-type o) → outcome_is o after ≡ fall_back x f v p q files mark e s
+    pub fallen-stop : (o ≡ Done → ⊥) → outcome_is o after ≡ fall_back x f v p q files mark e s
     unfolding fall_back
     fallen-stop t = then-stop after (import_instead x f v p q e) o (rw rolled at is) t
 
@@ -134,13 +132,13 @@ module _ (x : Fixed) (f : FileNumber) (v : Version) (p : Element) (q : Pair) (fi
     split-is : splittable_in x.schema (type_of x p) v ≡ b
     split-is = rw (← et) (sym eb)
 
-    pub conflict-up : not b ≡ true → conflict e s ≡ settle_conflict x f v p q files mark e s
+    pub conflict-up : b ≡ false → conflict e s ≡ settle_conflict x f v p q files mark e s
     unfolding settle_conflict
-    conflict-up h = sym (rw (settle_conflict, ← key, free, split-is, not-true b h))
+    conflict-up h = sym (rw (settle_conflict, ← key, free, split-is, h))
 
-    pub conflict-falls : not b ≡ false → fall_back x f v p q files mark e s ≡ settle_conflict x f v p q files mark e s
+    pub conflict-falls : b ≡ true → fall_back x f v p q files mark e s ≡ settle_conflict x f v p q files mark e s
     unfolding settle_conflict
-    conflict-falls h = sym (rw (settle_conflict, ← key, free, split-is, not-false b h))
+    conflict-falls h = sym (rw (settle_conflict, ← key, free, split-is, h))
 
 -- ---- the level's answer
 
