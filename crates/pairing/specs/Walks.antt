@@ -5,7 +5,7 @@ use Rattle.tables.specs.Limits.{element_limit, item_limit}
 use Rattle.tables.specs.Lists.{any_of, keep}
 use Rattle.tables.specs.Records.{Element, TypeNumber, Model, Fixed}
 use Rattle.tables.specs.ModelTable.{count_of}
-use Rattle.merge_rules.specs.Pairing.{item_name, definition, children_of, Action, merge_equal, merge_unequal, a_only, b_only, unmergeable_parent, Pair, NewItem, Plan, Walked, planned, unmergeable_in, import_unpaired, action_of, walk}
+use Rattle.merge_rules.specs.Pairing.{item_name, definition, children_of, Action, merge_equal, a_only, Pair, NewItem, Plan, Walked, planned, unmergeable_in, import_unpaired, action_of, walk}
 use Rattle.pairing.specs.declared.plan.Sides.{Sides}
 use Rattle.pairing.specs.declared.plan.Cursors.{Cursors}
 use Rattle.pairing.specs.declared.action.Action as program

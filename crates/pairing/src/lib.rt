@@ -1,5 +1,6 @@
 // Pairing: the children of both sides, their keys, and the plan of a level.
 #![tactic(auto)]
+
 pub mod action;
 pub mod children;
 pub mod keys;

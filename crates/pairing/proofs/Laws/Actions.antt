@@ -1,20 +1,19 @@
 -- Laws of the action of two cursor children, way by way. Assumes nothing.
 use mathlib.Core.Bool.{Bool, true, false}
-use mathlib.Core.List.{List, [], ◌∷◌}
+use mathlib.Core.List.{List, []}
 use mathlib.Core.Option.{Option, none, some}
-use mathlib.Core.Path.{◌≡◌, refl, sym, ap, subst, ◌∙◌}
+use mathlib.Core.Path.{◌≡◌, refl, sym, ap, ◌∙◌}
 use Prim.Native.Nat.{ℕ, Ordering}
 use borrow.Author.Tests.{eq-eqb, ne_eqb}
 use lib.Dec.{eqb}
 use lib.ListN.{get_or}
-use Rattle.tables.specs.Paths.{path_order, parts_of, order_of}
-use Rattle.tables.specs.Records.{Element, enum_number, SchemaPath, SubElement, Model, Fixed, name_of, text_of, list_of}
+use Rattle.tables.specs.Paths.{path_order, order_of}
+use Rattle.tables.specs.Records.{enum_number, SchemaPath, SubElement, Model, Fixed, name_of, text_of, list_of}
 use Rattle.tables.specs.SchemaTable.{no_sub_element}
-use Rattle.tables.specs.Texts.{same_text, same_values, value_of}
+use Rattle.tables.specs.Texts.{same_values, value_of}
 use Rattle.tables.specs.declared.numbers.Element as numbers
 use Rattle.tables.specs.declared.path.Order.{Order}
 use Rattle.tables.specs.declared.path.Order.TheVariants.{Less, Equal, Greater}
-use Rattle.tables.specs.declared.path.Path.{Path}
 use Rattle.tables.specs.declared.text.Text as code_text
 use Rattle.tables.proofs.Laws.Texts.{same-values}
 use Rattle.deck.specs.Schema.{row_of_name}
@@ -22,7 +21,7 @@ use Rattle.schema_calls.specs.declared.calls.Found.{Found}
 use Rattle.schema_calls.specs.declared.calls.Found.TheVariants.{At as FoundAt, Missing as NotFound}
 use Rattle.schema_calls.specs.Calls.{Finds}
 use Rattle.schema_calls.proofs.Laws.Scans.{found-at, found-missing}
-use Rattle.merge_rules.specs.Pairing.{sole_text, element_text, identifiable, item_name, definition, same_key, same_texts, Action, merge_equal, a_only, b_only, sibling, calc_identifiables_merge, calc_element_merge, path_of, action_by_path, action_of}
+use Rattle.merge_rules.specs.Pairing.{sole_text, element_text, identifiable, item_name, definition, same_key, same_texts, Action, a_only, b_only, sibling, calc_identifiables_merge, calc_element_merge, path_of, action_by_path, action_of}
 use Rattle.pairing.specs.declared.keys.Key.{Key}
 use Rattle.pairing.specs.declared.keys.Child.{Child}
 use Rattle.pairing.specs.declared.keys.Child.TheVariants.{Of, Missing as NoChild}

@@ -1,13 +1,12 @@
 -- Laws of keys: a list's sole text, an element's identifier and DEFINITION-REF child, and their strings. Assumes nothing.
-use mathlib.Core.Bool.{Bool, true, false, not}
+use mathlib.Core.Bool.{Bool, true, false}
 use mathlib.Core.List.{List, [], ◌∷◌}
 use mathlib.Core.Option.{Option, none, some}
 use mathlib.Core.Path.{◌≡◌, refl, sym, ap, subst, ◌∙◌}
 use Prim.Native.Nat.{ℕ, ◌+◌, ◌<◌, ◌≤◌}
 use native.Mathlib.Numerals.{add-one}
 use native.Mathlib.Omega.{arith}
-use borrow.Author.Tests.{not-true, not-false, eq-eqb, ne_eqb}
-use denote.Enum.Declared.{tag_of}
+use borrow.Author.Tests.{eq-eqb, ne_eqb}
 use lib.Dec.{eqb}
 use lib.ListN.{length, get_or, drop, drop_of_length-le}
 use lib.Seq.{drop-cons}
@@ -22,8 +21,7 @@ use Rattle.tables.specs.declared.model.Item.TheVariants.{Child as ChildItem, Tex
 use Rattle.tables.specs.declared.numbers.Element as numbers
 use Rattle.tables.specs.declared.text.Place as code
 use Rattle.tables.specs.declared.text.Text as code_text
-use Rattle.tables.specs.declared.text.Text.TheVariants.{Number, Str, Whole, Float}
-use Rattle.tables.specs.contracts.text.Text.{the_type}
+use Rattle.tables.specs.declared.text.Text.TheVariants.{Number, Str, Whole}
 use Rattle.tables.proofs.Laws.Cells.{each-get_d}
 use Rattle.tables.proofs.Laws.ElementsTable.{text-back}
 use Rattle.tables.proofs.Laws.Lists.{get_d-flat}
@@ -41,7 +39,7 @@ use Rattle.pairing.specs.declared.keys.Key.TheVariants.{At, Missing as NoKey}
 use Rattle.pairing.specs.declared.keys.Child.{Child}
 use Rattle.pairing.specs.declared.keys.Child.TheVariants.{Of, Missing as NoChild}
 use Rattle.table_test.specs.Fits.{GoodFixed, ModelFits}
-use Rattle.pairing.specs.Keys.{key_is, Keys, child_is, ChildIn, FindsChild}
+use Rattle.pairing.specs.Keys.{Keys, child_is, ChildIn, FindsChild}
 use Rattle.table_test.proofs.Laws.Tested.{type-in}
 
 -- ---- numbers in range
@@ -105,10 +103,10 @@ string-is x (float b) h e {p} k =
     let z : ◌≡◌ {A = ℕ} 0 1 = cc in
     absurd (omega arith)
 
-pub not-string : (x : Fixed) (t : Text) {v : code_text.Text} → v ≡ value_of t → (tag_of the_type v ≡ 1 → ⊥) → Keys x.deck NoKey (string_of x t)
+pub not-string : (x : Fixed) (t : Text) {v : code_text.Text} → v ≡ value_of t → ((p : code.Place) → v ≡ Str p → ⊥) → Keys x.deck NoKey (string_of x t)
 unfolding value_of string_of
 not-string x (enum_number n) e k = record { is = refl; within = tt }
-not-string x (string p) e k = absurd (k (ap (tag_of the_type) e))
+not-string x (string p) e k = absurd (k (record { start = p.start; size = p.size }) e)
 not-string x (whole_number n) e k = record { is = refl; within = tt }
 not-string x (float b) e k = record { is = refl; within = tt }
 
@@ -181,14 +179,14 @@ module _ (n : ℕ) (x : Fixed) (m : Model) (e : ℕ) {t : ℕ} (et : t ≡ type_
   named-is : (type_row x.schema (type_of x e)).named ≡ b
   named-is = sym (eb ∙ ap (λ (u : ℕ). (type_row x.schema u).named) et)
 
-  pub identifier-unnamed : not b ≡ true → FindsChild n NoChild (identifier x m e)
+  pub identifier-unnamed : b ≡ false → FindsChild n NoChild (identifier x m e)
   unfolding identifier
-  identifier-unnamed k = record { is = rw (identifier, named-is ∙ not-true b k); within = tt }
+  identifier-unnamed k = record { is = rw (identifier, named-is ∙ k); within = tt }
 
-  module _ (named : not b ≡ false) {size : ℕ} (es : size ≡ length (list_of m e)) where
+  module _ (named : b ≡ true) {size : ℕ} (es : size ≡ length (list_of m e)) where
     named-identifier : identifier x m e ≡ leading_short_name x (list_of m e)
     unfolding identifier
-    named-identifier = rw (identifier, named-is ∙ not-false b named)
+    named-identifier = rw (identifier, named-is ∙ named)
 
     pub identifier-empty : size ≡ 0 → FindsChild n NoChild (identifier x m e)
     identifier-empty k = record { is = sym (named-identifier ∙ leading-none x (list_of m e) (sym es ∙ k)); within = tt }

@@ -5,25 +5,21 @@ use mathlib.Core.Path.{◌≡◌, refl, sym, ap, ◌∙◌}
 use Prim.Native.Nat.{ℕ, zero, suc, ◌+◌, ◌-◌, ◌*◌, ◌≤◌, ◌<◌}
 use native.Mathlib.Omega.{arith}
 use borrow.Rule.Slice.PartMut.{mid_of, put_mid, same_len_mid, take_put}
-use lib.ListN.{length, get_or, take, drop, length-take, length-drop}
+use lib.ListN.{length, get_or, take, drop}
 use lib.Seq.{length-take-le, take-append-le, drop_at}
-use Rattle.tables.specs.Limits.{item_limit, element_limit}
+use Rattle.tables.specs.Limits.{item_limit}
 use Rattle.tables.specs.Lists.{first_of}
 use Rattle.tables.specs.ModelTable.{count_of, model_of, ItemBelow, GoodModel}
 use Rattle.tables.specs.Records.{Element, Item, child, text, Model, Version, Fixed, type_of, list_of}
-use Rattle.tables.specs.ElementsTable.{elements_of}
-use Rattle.tables.specs.SchemaTable.{schema_of}
-use Rattle.tables.proofs.Laws.Cells.{each-get_d}
 use Rattle.tables.proofs.Laws.ModelTable.{start-room, item-below}
 use Rattle.deck.specs.Schema.{splittable_in}
-use Rattle.merge_rules.specs.Pairing.{children, children_of, action_of, Plan, Walked, planned, restrict_first, left_over_a, walk, walk_level, first_used_twice}
+use Rattle.merge_rules.specs.Pairing.{children, children_of, action_of, planned, restrict_first, left_over_a, walk, walk_level, first_used_twice}
 use Rattle.pairing.specs.declared.plan.Sides.{Sides}
 use Rattle.pairing.specs.Actions.{Listed}
-use Rattle.pairing.specs.Plans.{spread, row_element, row_value, restriction_in, pair_in, plan_in, row_elements, LevelPlan, level_plan, or_used_twice, checked_plan, plan_level, RowsIn, Copied, CopiedRows}
-use Rattle.table_test.specs.Fits.{GoodFixed}
-use Rattle.pairing.specs.Walks.{first_children, second_children, walk_on, WorkRoom, Ranged, Laid}
-use Rattle.pairing.proofs.Laws.Rows.{restricted, not-mated, elements_same, length-first, get_d-first, length-second, front_at}
-use Rattle.pairing.proofs.Laws.Spreads.{spread_none, spread_same, length-singles, get_d-singles}
+use Rattle.pairing.specs.Plans.{spread, row_element, row_value, restriction_in, pair_in, plan_in, level_plan, or_used_twice, checked_plan, plan_level, Copied, CopiedRows}
+use Rattle.pairing.specs.Walks.{first_children, second_children, walk_on, Laid}
+use Rattle.pairing.proofs.Laws.Rows.{restricted, not-mated, elements_same, get_d-first, front_at}
+use Rattle.pairing.proofs.Laws.Spreads.{spread_none, spread_same, length-singles}
 use Rattle.pairing.proofs.Laws.Walks.{no_plan, no_second}
 
 -- ---- children of a good table

@@ -1,24 +1,20 @@
 -- The walk of a level from its start to its end. Assumes nothing.
-use mathlib.Core.List.{List, [], ◌∷◌}
-use mathlib.Core.Logic.{⊎_elim}
+use mathlib.Core.List.{List, []}
 use mathlib.Core.Path.{◌≡◌, refl, ap, ◌∙◌}
 use Prim.Native.Nat.{ℕ, ◌+◌, ◌-◌, ◌*◌, ◌≤◌, ◌<◌}
 use native.Mathlib.Omega.{arith}
-use denote.Enum.Declared.{tag_of}
-use types.Run.{OneOf}
-use lib.ListN.{length, get_or, take, replicate, length-replicate, get_or-replicate}
+use lib.ListN.{length, take, replicate, length-replicate, get_or-replicate}
 use Rattle.tables.specs.Limits.{element_limit}
 use Rattle.tables.specs.Lists.{keep}
 use Rattle.tables.specs.Records.{Element}
-use Rattle.merge_rules.specs.Pairing.{Action, merge_equal, a_only, b_only, unmergeable_parent, Walked, planned, unmergeable_in, first_used_twice}
+use Rattle.merge_rules.specs.Pairing.{Action, merge_equal, b_only, unmergeable_parent, planned, first_used_twice}
 use Rattle.pairing.specs.declared.plan.Sides.{Sides}
 use Rattle.pairing.specs.declared.plan.Cursors.{Cursors}
 use Rattle.pairing.specs.declared.plan.Planned.{Planned}
 use Rattle.pairing.specs.declared.action.Action as program
 use Rattle.pairing.specs.declared.action.Action.TheVariants.{MergeEqual, MergeUnequal, AOnly, BOnly, UnmergeableParent}
-use Rattle.pairing.specs.contracts.action.Action.{the_type}
-use Rattle.pairing.specs.Actions.{action_is, ActionIn, Acts}
-use Rattle.pairing.specs.Plans.{spread, plan_up_to, plan_in, planned_is, PlanIn, RowsIn, level_unmergeable, or_used_twice, checked_plan}
+use Rattle.pairing.specs.Actions.{action_is, Acts}
+use Rattle.pairing.specs.Plans.{spread, plan_up_to, plan_in, planned_is, level_unmergeable, or_used_twice, checked_plan}
 use Rattle.pairing.specs.Walks.{first_children, second_children, next_action, StepIn, walk_on, pair_uses, import_uses, use_of, Counted, Planning, WorkRoom, Ranged, Advances, Finishes}
 use Rattle.pairing.proofs.Laws.Planning.{next-other, planning-neither, planning-end, planning-start}
 use Rattle.pairing.proofs.Laws.Rows.{CellsKept, front_kept, plan-kept, elements-kept, length-first, length-second, second-behind, front_at, second-front}
@@ -31,17 +27,9 @@ counted_none na w =
 
 -- ---- the action at the cursors
 
-told-other : (o : program.Action) → OneOf (0 ∷ 1 ∷ 2 ∷ 3 ∷ []) (tag_of the_type o) → o ≡ UnmergeableParent → ⊥
-told-other UnmergeableParent h e =
-    ⊎_elim (λ a. omega arith) (⊎_elim (λ a. omega arith) (⊎_elim (λ a. omega arith) (λ a. omega arith))) h
-told-other MergeEqual h e = let z : ◌≡◌ {A = ℕ} 0 1 = cc in omega arith
-told-other (MergeUnequal x) h e = let z : ◌≡◌ {A = ℕ} 0 1 = cc in omega arith
-told-other AOnly h e = let z : ◌≡◌ {A = ℕ} 0 1 = cc in omega arith
-told-other BOnly h e = let z : ◌≡◌ {A = ℕ} 0 1 = cc in omega arith
-
 -- an action other than refusal 6 is one that a step can take
 pub step_in : (n : ℕ) (act : Element → Element → Action) (s : Sides) (w : List ℕ) (i j k : ℕ) (o : program.Action) → n ≤ element_limit → WorkRoom s w i j k
-    → OneOf (0 ∷ 1 ∷ 2 ∷ 3 ∷ []) (tag_of the_type o) → Acts n o (next_action act (first_children s w) (second_children s w) i j) → StepIn s j o
+    → (o ≡ UnmergeableParent → ⊥) → Acts n o (next_action act (first_children s w) (second_children s w) i j) → StepIn s j o
 step_in n act s w i j k MergeEqual few room told a =
     let (h, e) = next-other act (first_children s w) (second_children s w) i j merge_equal a.is (λ q. let z : ◌≡◌ {A = ℕ} 0 1 = cc in absurd (omega arith)) in
     omega (arith, length-second s w room.within)
@@ -50,7 +38,7 @@ step_in n act s w i j k AOnly few room told a = tt
 step_in n act s w i j k BOnly few room told a =
     let (h, e) = next-other act (first_children s w) (second_children s w) i j b_only a.is (λ q. let z : ◌≡◌ {A = ℕ} 0 1 = cc in absurd (omega arith)) in
     omega (arith, length-second s w room.within)
-step_in n act s w i j k UnmergeableParent few room told a = told-other UnmergeableParent told refl
+step_in n act s w i j k UnmergeableParent few room told a = absurd (told refl)
 
 -- ---- from the start, where B's children name the action, over n elements
 

@@ -1,8 +1,8 @@
 -- One step of the walk over plain lists: the plan so far and the walk that is left stay the whole. Assumes nothing.
 use mathlib.Core.Bool.{true, false}
-use mathlib.Core.List.{List, [], ◌∷◌, ◌++◌, append-nil}
+use mathlib.Core.List.{List, [], ◌∷◌, append-nil}
 use mathlib.Core.Logic.{⊎_elim}
-use mathlib.Core.Path.{◌≡◌, refl, sym, ap, ◌∙◌}
+use mathlib.Core.Path.{◌≡◌, refl, sym, ◌∙◌}
 use Prim.Native.Nat.{ℕ, suc, ◌+◌, ◌≤◌, ◌<◌}
 use native.Mathlib.Numerals.{add-one}
 use native.Mathlib.Omega.{arith}
@@ -12,7 +12,7 @@ use lib.ListN.{length, get_or, drop, drop_of_length-le}
 use lib.Seq.{drop-cons}
 use Rattle.tables.specs.Lists.{any_of, keep}
 use Rattle.tables.specs.Records.{Element}
-use Rattle.merge_rules.specs.Pairing.{Action, merge_equal, merge_unequal, a_only, b_only, unmergeable_parent, Plan, Walked, planned, unmergeable_in, restrict_first, import_first, pair_first, import_unpaired}
+use Rattle.merge_rules.specs.Pairing.{Action, merge_equal, merge_unequal, a_only, b_only, unmergeable_parent, Plan, Walked, planned, unmergeable_in, import_unpaired}
 use Rattle.merge_rules.proofs.Laws.Cases.{same-or-other}
 use Rattle.pairing.specs.Walks.{next_action, walk_on, after, pair_uses, Planning, StepPasses}
 use Rattle.pairing.proofs.Laws.Uses.{pair-here, pair-other}

@@ -1,9 +1,7 @@
 -- The plan in the rows of the scratch slice: one row more, and stores. Assumes nothing.
-use mathlib.Core.Bool.{true, false}
 use mathlib.Core.List.{List, [], ◌∷◌, ◌++◌, append-nil}
 use mathlib.Core.Path.{◌≡◌, refl, sym, ap, ◌∙◌}
 use Prim.Native.Nat.{ℕ, zero, suc, ◌+◌, ◌-◌, ◌*◌, ◌≤◌, ◌<◌}
-use native.Mathlib.Numerals.{add-one}
 use native.Mathlib.Omega.{arith}
 use borrow.Author.Tests.{ltb-true, ltb-false}
 use lib.Dec.{ltb}
@@ -11,7 +9,6 @@ use lib.ListN.{length, get_or, set, take, drop, length-set, length-drop, get_or-
 use lib.Seq.{get_or-set_same, get_or-set_other, get_or-take, get_or-drop, length-take-le, ext_get_or}
 use Rattle.tables.specs.Records.{Element}
 use Rattle.tables.proofs.Laws.Cases.{bool-split}
-use Rattle.merge_rules.specs.Pairing.{Pair, NewItem, Plan}
 use Rattle.pairing.specs.declared.plan.Sides.{Sides}
 use Rattle.pairing.specs.Plans.{spread, restriction_of, pair_of, row_element, row_value, restriction_in, pair_in, import_in, plan_up_to, row_elements}
 use Rattle.pairing.specs.Walks.{first_children, second_children}

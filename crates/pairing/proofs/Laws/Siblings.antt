@@ -1,28 +1,25 @@
 -- Laws of the search for a sibling: which siblings have the name and the key sought. Assumes nothing.
-use mathlib.Core.Bool.{Bool, true, false, ◌&&◌}
-use mathlib.Core.List.{List, [], ◌∷◌}
+use mathlib.Core.Bool.{Bool, true, false}
+use mathlib.Core.List.{List, ◌∷◌}
 use mathlib.Core.Option.{Option, none, some}
-use mathlib.Core.Path.{◌≡◌, refl, sym, ap, subst, ◌∙◌}
+use mathlib.Core.Path.{◌≡◌, sym, ap, subst, ◌∙◌}
 use Prim.Native.Nat.{ℕ, zero, suc, ◌+◌, ◌-◌, ◌<◌, ◌≤◌}
 use native.Mathlib.Numerals.{add-one}
 use native.Mathlib.Omega.{arith}
 use borrow.Author.Tests.{eq-eqb, ne_eqb}
-use lib.Dec.{eqb}
 use lib.ListN.{length, get_or, take, drop, drop_of_length-le}
 use lib.Seq.{drop-cons}
 use Rattle.tables.specs.Lists.{first_of, same_list}
 use Rattle.tables.specs.Records.{Element, Place, Fixed, name_of}
 use Rattle.tables.specs.Texts.{bytes_at, place_of, place_in}
-use Rattle.tables.specs.declared.numbers.Element as numbers
 use Rattle.tables.specs.declared.text.Place as code
 use Rattle.tables.proofs.Laws.Texts.{bytes-start, bytes-more, bytes-differ, bytes-end, sizes-differ}
 use Rattle.merge_rules.specs.Pairing.{same_key, sibling}
 use Rattle.pairing.specs.declared.keys.Key.{Key}
 use Rattle.pairing.specs.declared.keys.Key.TheVariants.{At, Missing as NoKey}
-use Rattle.pairing.specs.declared.keys.Child.TheVariants.{Of, Missing as NoChild}
 use Rattle.pairing.specs.declared.sibling.Candidate.{Candidate}
 use Rattle.pairing.specs.declared.sibling.Candidate.TheVariants.{From, Skip}
-use Rattle.pairing.specs.Keys.{key_is, KeyIn, Keys, FindsChild, has_key, span_of, CandidateIs, Candidates}
+use Rattle.pairing.specs.Keys.{key_is, KeyIn, Keys, has_key, span_of, CandidateIs, Candidates}
 use Rattle.pairing.proofs.Laws.Keys.{first-yes, first-no}
 
 span-in : (deck : List ℕ) (k : Key) → KeyIn deck k → (span_of k).start + (span_of k).size ≤ length deck

@@ -1,25 +1,23 @@
 -- What the code of one step of the walk reads and asks. Assumes nothing.
-use mathlib.Core.Bool.{Bool, true}
+use mathlib.Core.Bool.{Bool}
 use mathlib.Core.List.{List}
 use mathlib.Core.Option.{Option, none, some}
-use mathlib.Core.Path.{◌≡◌, refl, sym, ap, ◌∙◌}
+use mathlib.Core.Path.{◌≡◌, sym, ap, ◌∙◌}
 use Prim.Native.Nat.{ℕ, ◌+◌, ◌-◌, ◌*◌, ◌≤◌, ◌<◌}
 use native.Mathlib.Omega.{arith}
 use borrow.Author.Tests.{lt-ltb, le-ltb}
 use lib.Dec.{ltb}
-use lib.ListN.{length, get_or, take, drop, length-drop}
-use lib.Seq.{get_or-drop}
+use lib.ListN.{length, get_or, drop}
 use Rattle.tables.specs.Limits.{element_limit, item_limit}
 use Rattle.tables.specs.Lists.{first_of}
 use Rattle.tables.specs.Records.{Element}
 use Rattle.tables.proofs.Laws.Scans.{first_more, first-stop, first-end}
-use Rattle.merge_rules.specs.Pairing.{Action, a_only, b_only, Plan, uses, first_used_twice}
+use Rattle.merge_rules.specs.Pairing.{Action, a_only, b_only, Plan, uses}
 use Rattle.pairing.specs.declared.plan.Sides.{Sides}
-use Rattle.pairing.specs.declared.plan.Cursors.{Cursors}
 use Rattle.pairing.specs.declared.action.Action as program
 use Rattle.pairing.specs.declared.action.Action.TheVariants.{MergeEqual, MergeUnequal, BOnly, UnmergeableParent}
 use Rattle.pairing.specs.Plans.{row_element, level_plan, child_used_twice, or_used_twice}
-use Rattle.pairing.specs.Walks.{first_children, second_children, next_action, StepIn, WorkRoom, Ranged, Walks, StepPasses, Imports}
+use Rattle.pairing.specs.Walks.{first_children, second_children, next_action, StepIn, WorkRoom, Ranged, Walks, StepPasses}
 use Rattle.pairing.proofs.Laws.Planning.{next_here, next-behind, passes-second, passes-rest}
 use Rattle.pairing.proofs.Laws.Rows.{length-first, get_d-first, length-second, get_d-second}
 

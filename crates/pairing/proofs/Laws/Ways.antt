@@ -1,23 +1,19 @@
 -- The ways of one step of the walk on the scratch slice, and steps one after the other. Assumes nothing.
-use mathlib.Core.List.{List, ◌∷◌}
+use mathlib.Core.List.{List}
 use mathlib.Core.Logic.{⊎_elim}
 use mathlib.Core.Path.{◌≡◌, refl, sym, ap, ◌∙◌}
-use Prim.Native.Nat.{ℕ, ◌+◌, ◌-◌, ◌*◌, ◌≤◌, ◌<◌}
+use Prim.Native.Nat.{ℕ, ◌+◌, ◌*◌, ◌≤◌, ◌<◌}
 use native.Mathlib.Omega.{arith}
 use lib.ListN.{length, get_or, set, drop}
 use lib.Seq.{get_or-set_same}
 use Rattle.tables.specs.Limits.{element_limit, item_limit}
 use Rattle.tables.specs.Records.{Element}
-use Rattle.merge_rules.specs.Pairing.{Action, merge_equal, merge_unequal, a_only, b_only, Plan, Walked}
+use Rattle.merge_rules.specs.Pairing.{Action, merge_equal, merge_unequal, a_only, Plan, Walked}
 use Rattle.merge_rules.proofs.Laws.Cases.{same-or-other}
 use Rattle.pairing.specs.declared.plan.Sides.{Sides}
-use Rattle.pairing.specs.declared.plan.Cursors.{Cursors}
-use Rattle.pairing.specs.declared.action.Action as program
-use Rattle.pairing.specs.declared.action.Action.TheVariants.{MergeEqual, MergeUnequal, AOnly, BOnly}
-use Rattle.pairing.specs.Actions.{Listed, action_is, ActionIn}
-use Rattle.pairing.specs.Plans.{row_element, row_value, plan_up_to, RowsIn}
-use Rattle.pairing.specs.Walks.{first_children, second_children, next_action, used_again, Counted, Planning, WorkRoom, Ranged, Walks, StepPasses, Advances, Imports}
-use Rattle.pairing.proofs.Laws.Planning.{planning-equal, planning-unequal, planning-first, planning-skip, planning-import, passes-second}
+use Rattle.pairing.specs.Plans.{row_element, row_value, plan_up_to}
+use Rattle.pairing.specs.Walks.{first_children, second_children, next_action, used_again, Counted, Planning, WorkRoom, Ranged, Walks, StepPasses}
+use Rattle.pairing.proofs.Laws.Planning.{planning-equal, planning-unequal, planning-first, planning-skip, planning-import}
 use Rattle.pairing.proofs.Laws.Rows.{row-restriction, row-pair, row-import, CellsKept, kept-one, kept-two, two-first, two-second, plan-kept, elements-kept, length-first, get_d-first, length-second, get_d-second, behind-kept, second-behind}
 use Rattle.pairing.proofs.Laws.Uses.{counted-restriction, counted-pair, counted-import, counted-paired, counted-unpaired}
 use Rattle.pairing.proofs.Laws.Walks.{plus_restriction, plus_import, plus_pair}

@@ -1,0 +1,30 @@
+use mathlib.Core.Path.{◌≡◌, refl, ◌∙◌}
+use Prim.Native.Nat.{◌-◌}
+use native.Mathlib.Omega.{arith}
+use Rattle.pairing.proofs.Laws.Steps.{passes-left}
+use Rattle.pairing.proofs.Laws.Ways.{walks-none, walks-then}
+use Rattle.pairing.proofs.plan.import_rest.Goals as goal
+
+pub overflow_sub-n : goal.overflow_sub-n
+overflow_sub-n c = omega (arith, c.requires.work_room.second)
+
+pub loop-b-init : goal.loop-b-init
+loop-b-init c =
+    (walks-none c.args.s _ _ c.args.work.now c.args.c.a c.args.c.b c.args.c.new c.args.uses.now c.requires.work_room c.requires.counted, refl, refl)
+
+pub import_next-new-requires : goal.import_next-new-requires
+import_next-new-requires c =
+    let i = c.loop-b.invariant.0 in record { work_room = i.room; counted = i.counted; b_bound = omega (arith, c.requires.work_room.second, c.loop-b-test.true); position_le_item_limit = c.requires.position_le_item_limit }
+
+pub loop-b-preserved : goal.loop-b-preserved
+loop-b-preserved c = (
+  walks-then c.args.s _ _ c.args.work.now c.args.c.a c.args.c.b c.args.c.new _ _ c.loop-b.work c.loop-b.uses c.args.c.a c.loop-b.b c.loop-b.new c.import_next-new.new.work c.import_next-new.new.uses c.args.c.a _ c.import_next-new.result c.loop-b.invariant.0 c.import_next-new.ensures (λ act end q. passes-left c.args.s c.loop-b.work c.args.c.a c.loop-b.b c.loop-b.new c.loop-b.invariant.0.room act end c.args.position c.requires.a_value (omega (arith, c.requires.work_room.second, c.loop-b-test.true)) q) (λ n q. q),
+  c.import_next-new.auto.work ∙ c.loop-b.invariant.1,
+  c.import_next-new.auto.uses ∙ c.loop-b.invariant.2,
+)
+
+pub returns : goal.returns
+returns c =
+    let r = c.loop-b.invariant.0.room in
+    let e : c.args.s.end - c.args.s.start ≡ c.loop-b.b = omega (arith, r.second, c.loop-b-test.false) in
+    rw e c.loop-b.invariant.0
