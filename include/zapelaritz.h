@@ -4,7 +4,7 @@
  * imported, elements restricted to the older files, file sets extended), takes the latest merges back, and prints. Every
  * function is proved to meet its contract for any bytes and any numbers. docs/DECK.md describes decks, calls and refusals.
  *
- * Link with target/staticlib/libzapelaritz_c.a, which `rt staticlib zapelaritz_c` proves and writes, on x86-64 alone. Of
+ * Link with target/staticlib/libzapelaritz_c.a, which `tools/build zapelaritz_c` proves and writes, on x86-64 alone. Of
  * the C library it needs memcpy, memmove and memset.
  *
  * Slices. Each slice passes as a pointer and then a length: of deck, calls and out in bytes, of the tables and the answer
