@@ -4,7 +4,7 @@
  * imported, elements restricted to the older files, file sets extended), takes the latest merges back, and prints. Every
  * function is proved to meet its contract for any bytes and any numbers. docs/DECK.md describes decks, calls and refusals.
  *
- * Link with target/staticlib/libzapelaritz_c.a, which `rt staticlib zapelaritz_c` proves and writes, on x86-64 alone. Of
+ * Link with target/staticlib/libzapelaritz_c.a, which `tools/build zapelaritz_c` proves and writes, on x86-64 alone. Of
  * the C library it needs memcpy, memmove and memset.
  *
  * Slices. Each slice passes as a pointer and then a length: of deck, calls and out in bytes, of the tables and the answer
@@ -28,10 +28,10 @@
  * Threads. No function holds state. Calls on different slices may run at the same time, and so may calls that share slices
  * and only read them. A slice that one call writes must not be used by another call at the same time.
  *
- * Stack. Every call runs on the caller's stack. As measured on trees of the largest depth, a merge takes up to 1,100,000 bytes
- * of it, zapelaritz_print_output and zapelaritz_print_calls up to 1,290,000, and every other call up to 14,000. No theorem
- * bounds the stack, and nothing tests it: a call that runs out of it crashes at the guard page. A thread that merges should
- * have 2 MiB.
+ * Stack. Every call runs on the caller's stack. As measured on trees of the largest depth, of a library that an older
+ * toolchain built, a merge takes up to 1,100,000 bytes of it, zapelaritz_print_output and zapelaritz_print_calls up to
+ * 1,290,000, and every other call up to 14,000. No theorem bounds the stack, and nothing tests it: a call that runs out of it
+ * crashes at the guard page. A thread that merges should have 2 MiB.
  */
 #ifndef ZAPELARITZ_H
 #define ZAPELARITZ_H

@@ -1,5 +1,5 @@
 //! Links `libzapelaritz_c.a`, from the folder ZAPELARITZ_LIB_DIR (a relative one starts at this package) or else from
-//! the folder that `rt staticlib` writes.
+//! the folder that `tools/build` writes.
 
 use std::env;
 use std::path::Path;
@@ -12,7 +12,7 @@ fn main() {
     println!("cargo::rerun-if-changed={}", archive.display());
     if !archive.is_file() {
         println!(
-            "cargo::error={} is missing; `rt staticlib zapelaritz_c` writes it",
+            "cargo::error={} is missing; `tools/build zapelaritz_c` writes it",
             archive.display()
         );
         return;

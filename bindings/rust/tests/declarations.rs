@@ -104,7 +104,7 @@ fn passed(parameter: &str) -> Vec<(String, String)> {
 fn rattle() -> Functions {
     let mut functions = Functions::new();
     for file in rattle_files() {
-        let exported = "#[no_mangle]\npub extern \"C\" fn ";
+        let exported = "#[unsafe(no_mangle)]\npub extern \"C\" fn ";
         assert_eq!(
             file.matches("extern").count(),
             file.matches(exported).count()

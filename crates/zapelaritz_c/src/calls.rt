@@ -42,9 +42,9 @@ pub extern "C" fn zapelaritz_load(
     log: &mut [u64],
     answer: &mut [u64],
 ) -> u64
-    ensures { record { answer = numbered result answer.exit.now; tables = tables_of schema.new elements.new model.new log.new }
+    ensures { record { answer = numbered result answer.new; tables = tables_of schema.new elements.new model.new log.new }
         ≡ numbered_load deck.now (tables_of schema.old elements.old model.old log.old)
-        answer.entry.now }
+        answer.old }
 {
     if answer.len() != ANSWER_SIZE {
         clear_lent(schema, elements, model, log, answer);
@@ -64,9 +64,9 @@ pub extern "C" fn zapelaritz_merge(
     file: u64,
     answer: &mut [u64],
 ) -> u64
-    ensures { record { answer = numbered result answer.exit.now; model = model.new; log = log.new }
+    ensures { record { answer = numbered result answer.new; model = model.new; log = log.new }
         ≡ numbered_merge deck.now schema.now elements.now model.old log.old
-        file answer.entry.now }
+        file answer.old }
 {
     if answer.len() != ANSWER_SIZE {
         return WRONG_SIZE;
@@ -85,9 +85,9 @@ pub extern "C" fn zapelaritz_rollback(
     mark: u64,
     answer: &mut [u64],
 ) -> u64
-    ensures { record { answer = numbered result answer.exit.now; model = model.new; log = log.new }
+    ensures { record { answer = numbered result answer.new; model = model.new; log = log.new }
         ≡ numbered_rollback deck.now schema.now elements.now model.old log.old
-        mark answer.entry.now }
+        mark answer.old }
 {
     if answer.len() != ANSWER_SIZE {
         return WRONG_SIZE;

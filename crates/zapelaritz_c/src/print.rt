@@ -69,9 +69,9 @@ fn print_listing(
     out: &mut [u8],
     answer: &mut [u64],
 ) -> u64
-    ensures { record { answer = numbered result answer.exit.now; buffer = out.new }
+    ensures { record { answer = numbered result answer.new; buffer = out.new }
         ≡ numbered_text (listing_is l) deck.now schema.now elements.now model.now log.now
-        from out.old answer.entry.now }
+        from out.old answer.old }
 {
     if answer.len() != ANSWER_SIZE {
         return WRONG_SIZE;
@@ -92,9 +92,9 @@ pub extern "C" fn zapelaritz_print_model(
     out: &mut [u8],
     answer: &mut [u64],
 ) -> u64
-    ensures { record { answer = numbered result answer.exit.now; buffer = out.new }
+    ensures { record { answer = numbered result answer.new; buffer = out.new }
         ≡ numbered_text model_text deck.now schema.now elements.now model.now log.now
-        from out.old answer.entry.now }
+        from out.old answer.old }
 {
     print_listing(
         Listing::Model,
@@ -121,9 +121,9 @@ pub extern "C" fn zapelaritz_print_trees(
     out: &mut [u8],
     answer: &mut [u64],
 ) -> u64
-    ensures { record { answer = numbered result answer.exit.now; buffer = out.new }
+    ensures { record { answer = numbered result answer.new; buffer = out.new }
         ≡ numbered_text trees_text deck.now schema.now elements.now model.now log.now
-        from out.old answer.entry.now }
+        from out.old answer.old }
 {
     print_listing(
         Listing::Trees,
@@ -150,9 +150,9 @@ pub extern "C" fn zapelaritz_print_log(
     out: &mut [u8],
     answer: &mut [u64],
 ) -> u64
-    ensures { record { answer = numbered result answer.exit.now; buffer = out.new }
+    ensures { record { answer = numbered result answer.new; buffer = out.new }
         ≡ numbered_text log_text deck.now schema.now elements.now model.now log.now
-        from out.old answer.entry.now }
+        from out.old answer.old }
 {
     print_listing(
         Listing::Log,
