@@ -1,6 +1,6 @@
 // Files by name and ending, and what a test program printed, held to one of them.
 ghost use Rattle.std.specs.Prelude.{◌≤◌, length};
-ghost use Rattle.io.specs.Counts.{IsPrefixLen};
+ghost use Rattle.printing.specs.Counts.{IsPrefixLen};
 
 use crate::buffer::{MEGABYTE, megabyte};
 use crate::files::open_read;

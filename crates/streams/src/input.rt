@@ -1,6 +1,6 @@
 // A file read to its end, or as far as a buffer has room.
-ghost use Rattle.std.specs.Prelude.{None};
-ghost use Rattle.io.specs.Counts.{IsPrefixLen};
+ghost use Rattle.std.specs.Prelude.{◌≡◌};
+ghost use Rattle.printing.specs.Counts.{IsPrefixLen};
 
 use crate::buffer::MEGABYTE;
 use std::io;

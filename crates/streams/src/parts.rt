@@ -1,5 +1,5 @@
 // The output, written part by part.
-ghost use Rattle.io.specs.Counts.{IsPrefixLen};
+ghost use Rattle.printing.specs.Counts.{IsPrefixLen};
 
 use crate::buffer::{MEGABYTE, megabyte};
 use crate::files::fail;
