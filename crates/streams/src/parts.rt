@@ -5,6 +5,7 @@ use crate::buffer::{MEGABYTE, megabyte};
 use crate::files::fail;
 use output::print::{print_calls, print_output};
 use std::io;
+use std::io::ErrorKind;
 
 // Parts begin up to here; no run prints as much.
 const LAST_PART: usize = 0x7fff_ffff_ffff_ffff;
@@ -19,10 +20,11 @@ pub fn part(deck: &[u8], calls: &[u8], listed: bool, from: usize, out: &mut [u8]
     print_output(deck, from, out)
 }
 
-// Whether another part may follow: this one is full, and is written.
+// Whether another part may follow: this one is full, and is written. A reader that wants no more is for the caller to answer, without a word here.
 fn write_part(rt: &(impl Print + Eprint + Alloc), part: &[u8]) -> io::Result<bool> {
     match rt.write_all(part) {
         Ok(()) => Ok(part.len() == MEGABYTE),
+        Err(error) if error.kind() == ErrorKind::BrokenPipe => Err(error),
         Err(error) => {
             fail(rt, "standard output", error)?;
             Ok(false)

@@ -7,6 +7,7 @@
 use std::env::FillError;
 use std::io;
 use std::io::{ErrorKind, Read};
+use std::process::ExitCode;
 use std::rt::{Env, Files};
 use streams::buffer::{deck_buffer, megabyte};
 use streams::files::{fail, open_read};
@@ -115,17 +116,30 @@ fn run_named(
     }
 }
 
-fn main(rt: HostRuntime) -> io::Result<()> {
-    let count = arg_count(&rt);
+// By the arguments.
+fn start(rt: &(impl Env + Files + Input + Print + Eprint + Alloc)) -> io::Result<()> {
+    let count = arg_count(rt);
     if 3 < count {
         return eprintln!(rt; "usage: zapelaritz [DECK [CALLS]]");
     }
     if count < 2 {
-        return run(&rt, "standard input", &mut rt.reader(), b"", false);
+        return run(rt, "standard input", &mut rt.reader(), b"", false);
     }
     let mut name = [0u8; 4096];
-    match argument(&rt, 1, &mut name) {
-        Ok(name) => run_named(&rt, name, count),
-        Err(error) => fail(&rt, "the first argument", error),
+    match argument(rt, 1, &mut name) {
+        Ok(name) => run_named(rt, name, count),
+        Err(error) => fail(rt, "the first argument", error),
+    }
+}
+
+// What a shell says of a program that a closed pipe ended.
+const READER_ENDED: u8 = 141;
+
+// A reader that wants no more is no failure to speak of.
+fn main(rt: HostRuntime) -> io::Result<ExitCode> {
+    match start(&rt) {
+        Ok(()) => Ok(ExitCode::SUCCESS),
+        Err(error) if error.kind() == ErrorKind::BrokenPipe => Ok(ExitCode::from(READER_ENDED)),
+        Err(error) => Err(error),
     }
 }
