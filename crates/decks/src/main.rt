@@ -2,71 +2,79 @@
 // behind a space the name of the case whose deck it takes where it has none of its own. The case NAME has the files NAME.deck, NAME.calls where
 // calls are made, and NAME.out. docs/WORKING.md says what is in which folder.
 #![tactic(auto)]
+
 use deck::fields::find_byte;
 use deck::lines::line_end;
+use std::io;
+use std::rt::Files;
 use streams::answers::{held, read_file, word};
 use streams::buffer::{deck_buffer, megabyte};
 use streams::parts::part;
 
 // Whether what is printed is the answer of the case.
-fn answered(name: &[u8], deck: &[u8], calls: &[u8], listed: bool) -> bool {
+fn answered(
+    rt: &(impl Files + Print),
+    name: &[u8],
+    deck: &[u8],
+    calls: &[u8],
+    listed: bool,
+) -> io::Result<bool> {
     let mut out = megabyte();
     let n = part(deck, calls, listed, 0, &mut out);
-    held(name, &out[..n])
+    held(rt, name, &out[..n])
 }
 
 // With the calls of the case, where it has some.
-fn run(name: &[u8], deck: &[u8]) -> bool {
+fn run(rt: &(impl Files + Print), name: &[u8], deck: &[u8]) -> io::Result<bool> {
     let mut calls = megabyte();
-    let r = read_file(name, b".calls", &mut calls);
+    let r = read_file(rt, name, b".calls", &mut calls);
     let n = r.count;
-    answered(name, deck, &calls[..n], r.whole)
+    answered(rt, name, deck, &calls[..n], r.whole)
 }
 
 // On the deck of this name, of which one byte more than a deck may have matters.
-fn run_on(name: &[u8], deck_name: &[u8]) -> bool {
+fn run_on(rt: &(impl Files + Print), name: &[u8], deck_name: &[u8]) -> io::Result<bool> {
     let mut deck = deck_buffer();
-    let r = read_file(deck_name, b".deck", &mut deck);
+    let r = read_file(rt, deck_name, b".deck", &mut deck);
     if !r.whole {
-        word(name);
-        word(b": no deck in a file\n");
-        return false;
+        word(rt, name)?;
+        word(rt, b": no deck in a file\n")?;
+        return Ok(false);
     }
     let n = r.count;
-    run(name, &deck[..n])
+    run(rt, name, &deck[..n])
 }
 
 // The case of a line of the list.
-fn run_case(line: &[u8]) -> bool {
+fn run_case(rt: &(impl Files + Print), line: &[u8]) -> io::Result<bool> {
     let end = find_byte(line, b' ', 0, line.len());
     if end < line.len() {
-        return run_on(&line[0..end], &line[end + 1..]);
+        return run_on(rt, &line[0..end], &line[end + 1..]);
     }
-    run_on(line, line)
+    run_on(rt, line, line)
 }
 
 // How many cases differ.
-fn run_list(list: &[u8]) -> u64 {
+fn run_list(rt: &(impl Files + Print), list: &[u8]) -> io::Result<u64> {
     let mut differ: u64 = 0;
     let mut at: usize = 0;
     while at < list.len() {
         let end = line_end(list, at);
-        if !run_case(&list[at..end]) {
-            differ = std::num::wrapping_add_u64(differ, 1);
+        if !run_case(rt, &list[at..end])? {
+            differ = differ.wrapping_add(1);
         }
         at = end + 1;
     }
-    differ
+    Ok(differ)
 }
 
-fn main() {
+fn main(rt: HostRuntime) -> io::Result<()> {
     let mut list = megabyte();
-    let r = read_file(b"list", b"", &mut list);
+    let r = read_file(&rt, b"list", b"", &mut list);
     let n = r.count;
     if n == 0 {
-        word(b"list: no case\n");
-        return;
+        return word(&rt, b"list: no case\n");
     }
-    io::print_decimal(libc::STDOUT_FILENO, run_list(&list[..n]));
-    word(b" cases differ\n");
+    rt.print(run_list(&rt, &list[..n])?)?;
+    word(&rt, b" cases differ\n")
 }

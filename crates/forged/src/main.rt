@@ -1,6 +1,7 @@
 // Runs the scripts that data/list names and holds what each prints to the file of its answers; steps.rt has their language. They put numbers
 // into the tables that no load and no call would, and show what tests and calls say of them. Machine words, floats and bytes come first.
 #![tactic(auto)]
+
 mod lent;
 mod script;
 mod state;
@@ -9,27 +10,34 @@ mod steps;
 use deck::lines::line_end;
 use scripts::cells::cut_bytes;
 use scripts::words;
+use std::io;
+use std::rt::Files;
 use streams::answers::{held, read_file, word};
 use streams::buffer::{deck_buffer, megabyte};
 
-fn answers_held(name: &[u8], out: &[u8], count: usize) -> bool {
+fn answers_held(
+    rt: &(impl Files + Print),
+    name: &[u8],
+    out: &[u8],
+    count: usize,
+) -> io::Result<bool> {
     let n = cut_bytes(count, out);
-    held(name, &out[..n])
+    held(rt, name, &out[..n])
 }
 
 // Whether the script of this name prints its answers.
-fn script_held(name: &[u8]) -> bool {
+fn script_held(rt: &(impl Files + Print), name: &[u8]) -> io::Result<bool> {
     let mut text = megabyte();
-    let r = read_file(name, b".script", &mut text);
+    let r = read_file(rt, name, b".script", &mut text);
     if !r.whole {
-        word(name);
-        word(b".script is not read\n");
-        return false;
+        word(rt, name)?;
+        word(rt, b".script is not read\n")?;
+        return Ok(false);
     }
     let n = r.count;
     let mut out = megabyte();
-    let m = script::run(&text[..n], &mut out);
-    answers_held(name, &out, m)
+    let m = script::run(rt, &text[..n], &mut out);
+    answers_held(rt, name, &out, m)
 }
 
 fn one_if_not(b: bool) -> u64 {
@@ -37,37 +45,35 @@ fn one_if_not(b: bool) -> u64 {
 }
 
 // How many of the list's scripts differ.
-fn differing(list: &[u8]) -> u64 {
+fn differing(rt: &(impl Files + Print), list: &[u8]) -> io::Result<u64> {
     let mut n: u64 = 0;
     let mut at: usize = 0;
     while at < list.len() {
         let end = line_end(list, at);
-        n = std::num::wrapping_add_u64(n, one_if_not(script_held(&list[at..end])));
+        n = n.wrapping_add(one_if_not(script_held(rt, &list[at..end])?));
         if list.len() <= end {
-            return n;
+            return Ok(n);
         }
         at = end + 1;
     }
-    n
+    Ok(n)
 }
 
-fn run_list(list: &[u8]) {
+fn run_list(rt: &(impl Files + Print), list: &[u8]) -> io::Result<()> {
     if list.len() == 0 {
-        word(b"the list names no script\n");
-        return;
+        return word(rt, b"the list names no script\n");
     }
-    io::print_decimal(libc::STDOUT_FILENO, differing(list));
-    word(b" scripts differ\n");
+    rt.print(differing(rt, list)?)?;
+    word(rt, b" scripts differ\n")
 }
 
-fn main() {
-    words::run();
+fn main(rt: HostRuntime) -> io::Result<()> {
+    words::run(&rt)?;
     let mut list = deck_buffer();
-    let r = read_file(b"list", b"", &mut list);
+    let r = read_file(&rt, b"list", b"", &mut list);
     if !r.whole {
-        word(b"the list is not read\n");
-        return;
+        return word(&rt, b"the list is not read\n");
     }
     let n = r.count;
-    run_list(&list[..n]);
+    run_list(&rt, &list[..n])
 }

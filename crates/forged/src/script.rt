@@ -4,6 +4,7 @@ use crate::steps::step;
 use deck::lines::line_end;
 use printing::buffer::{append_bytes, append_number};
 use scripts::areas::ALL_CELLS;
+use std::rt::Files;
 use streams::buffer::deck_buffer;
 
 // `bad,line`; the count of bytes printed.
@@ -14,6 +15,7 @@ fn bad_line(out: &mut [u8], s: State, line: u64) -> usize {
 
 // Up to a line that is no step, or that does not end.
 fn run_lines(
+    rt: &impl Files,
     script: &[u8],
     cells: &mut [u64; ALL_CELLS],
     deck: &mut [u8],
@@ -23,12 +25,12 @@ fn run_lines(
     let mut line: u64 = 0;
     let mut at: usize = 0;
     while at < script.len() {
-        line = std::num::wrapping_add_u64(line, 1);
+        line = line.wrapping_add(1);
         let end = line_end(script, at);
         if script.len() <= end {
             return bad_line(out, s, line);
         }
-        s = step(script, at, end, cells, deck, out, s);
+        s = step(rt, script, at, end, cells, deck, out, s);
         if s.bad {
             return bad_line(out, s, line);
         }
@@ -38,8 +40,8 @@ fn run_lines(
 }
 
 // On tables of zeros, with an empty deck; the count of bytes printed.
-pub fn run(script: &[u8], out: &mut [u8]) -> usize {
+pub fn run(rt: &impl Files, script: &[u8], out: &mut [u8]) -> usize {
     let mut cells = [0u64; ALL_CELLS];
     let mut deck = deck_buffer();
-    run_lines(script, &mut cells, &mut deck, out)
+    run_lines(rt, script, &mut cells, &mut deck, out)
 }

@@ -25,6 +25,7 @@ use scripts::lines::{
     ALL, BACK, COUNT, KEEP, KEPT, LOAD, Line, NONE, PUT, SAME, SHOW, SIZE, TEST, area_at,
     of_request, read_step, span,
 };
+use std::rt::Files;
 use streams::answers::read_file;
 
 fn put(cells: &mut [u64], a: Area, s: State, l: Line) -> State {
@@ -112,13 +113,13 @@ fn compare(
 }
 
 // The deck in the file that field 1 names; a bad line where it cannot be read.
-fn read_deck(script: &[u8], f: Fields, deck: &mut [u8], s: State) -> State
+fn read_deck(rt: &impl Files, script: &[u8], f: Fields, deck: &mut [u8], s: State) -> State
     requires { Placed script.now f }
 {
     let p = span(script, f, 1);
     let i = p.start;
     let e = p.end;
-    let r = read_file(&script[i..e], b"", deck);
+    let r = read_file(rt, &script[i..e], b"", deck);
     let mut t = s;
     t.deck = r.count;
     t.bad = !r.whole;
@@ -170,6 +171,7 @@ fn table_step(
 }
 
 fn line_step(
+    rt: &impl Files,
     script: &[u8],
     f: Fields,
     cells: &mut [u64; ALL_CELLS],
@@ -184,7 +186,7 @@ fn line_step(
     match step {
         PUT | SHOW => area_step(script, f, cells, out, s, l),
         LOAD => {
-            let t = read_deck(script, f, deck, s);
+            let t = read_deck(rt, script, f, deck, s);
             call_step(cells, deck, out, t, l)
         }
         _ => table_step(cells, deck, out, s, l),
@@ -215,6 +217,7 @@ fn read_line(script: &[u8], start: usize, end: usize, f: Fields) -> Line
 
 // The line between two places.
 pub fn step(
+    rt: &impl Files,
     script: &[u8],
     start: usize,
     end: usize,
@@ -230,5 +233,5 @@ pub fn step(
     }
     let f = split(script, start, end);
     let l = read_line(script, start, end, f);
-    line_step(script, f, cells, deck, out, s, l)
+    line_step(rt, script, f, cells, deck, out, s, l)
 }

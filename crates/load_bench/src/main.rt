@@ -1,10 +1,16 @@
 // Loads each deck that its arguments name, and prints how often it was loaded: once, or as often as the latest number among the
 // arguments says. Time is taken from outside.
 #![tactic(auto)]
-ghost use Rattle.std.specs.Prelude.{◌≤◌};
+
+ghost use Rattle.std.specs.Prelude.{◌≤◌, length, IfOk};
 
 use deck::fields::{Num, number};
 use load::load::{Answer, load};
+use std::env::FillError;
+use std::fs::File;
+use std::io;
+use std::io::{ErrorKind, Read};
+use std::rt::{Env, Files};
 use tables::elements::ELEMENTS_SIZE;
 use tables::limits::DECK_LIMIT;
 use tables::log::LOG_SIZE;
@@ -61,45 +67,74 @@ fn load_deck(deck: &[u8], times: u64) -> u64 {
     )
 }
 
-fn load_open(fd: i32, times: u64) -> u64 {
-    let mut deck = [0u8; DECK_LIMIT + 1];
-    let n = io::read_full(fd, &mut deck);
-    load_deck(&deck[..n], times)
-}
-
-fn load_file(name: &[u8], times: u64) {
-    let fd = os::open_read(name);
-    if fd < 0 {
-        os::fail(name);
-        return;
+// Fills the buffer as far as the file goes; the count of bytes read.
+fn read_full(file: &mut impl Read, buf: &mut [u8]) -> io::Result<usize>
+    ensures { IfOk result (λ n. n ≤ length buf.new) }
+{
+    let mut n: usize = 0;
+    while n < buf.len() {
+        let more = file.read(&mut buf[n..])?;
+        if more == 0 {
+            return Ok(n);
+        }
+        n += more;
     }
-    io::write_all(libc::STDOUT_FILENO, name);
-    io::write_all(libc::STDOUT_FILENO, b" loaded ");
-    io::print_decimal(libc::STDOUT_FILENO, load_open(fd, times));
-    io::write_all(libc::STDOUT_FILENO, b"\n");
-    libc::close(fd);
+    Ok(n)
 }
 
-// The i-th argument, a deck or a number; how often the decks behind it are loaded.
-fn argument(i: usize, times: u64) -> u64 {
-    let mut word = io::buffer();
-    let n = os::arg(i, &mut word);
-    let v = number(&word[..n], 10, 1000000);
+fn load_open(file: &mut impl Read, times: u64) -> io::Result<u64> {
+    let mut deck = [0u8; DECK_LIMIT + 1];
+    let n = read_full(file, &mut deck)?;
+    Ok(load_deck(&deck[..n], times))
+}
+
+fn load_file(rt: &(impl Files + Print + Eprint), name: &str, times: u64) -> io::Result<()> {
+    match File::open(rt, name) {
+        Ok(mut file) => {
+            rt.print(name)?;
+            rt.print(" loaded ")?;
+            rt.println(load_open(&mut file, times)?)
+        }
+        Err(error) => eprintln!(rt; "{name}: {error}"),
+    }
+}
+
+// What the word says, a deck or a number; how often the decks behind it are loaded.
+fn load_word(rt: &(impl Files + Print + Eprint), word: &[u8], times: u64) -> io::Result<u64> {
+    let v = number(word, 10, 1000000);
     match v {
-        Num::Number(m) => m,
-        Num::Bad => {
-            load_file(&word[..n], times);
-            times
+        Num::Number(m) => Ok(m),
+        Num::Bad => match std::str::from_utf8(word) {
+            Ok(name) => {
+                load_file(rt, name, times)?;
+                Ok(times)
+            }
+            Err(_) => Err(io::Error::from(ErrorKind::InvalidInput)),
+        },
+    }
+}
+
+// The i-th argument, a deck or a number; how often the decks behind it are loaded. Nothing where there are no more.
+fn argument(
+    rt: &(impl Env + Files + Print + Eprint),
+    i: usize,
+    times: u64,
+) -> io::Result<Option<u64>> {
+    let mut word = [0u8; 4096];
+    match rt.arg(i, &mut word) {
+        Ok(n) => Ok(Some(load_word(rt, &word[..n], times)?)),
+        Err(FillError::NotPresent) => Ok(None),
+        Err(FillError::TooLong) => Err(io::Error::from(ErrorKind::InvalidFilename)),
+    }
+}
+
+fn main(rt: HostRuntime) -> io::Result<()> {
+    let mut times: u64 = 1;
+    for i in 1..usize::MAX {
+        match argument(&rt, i, times)? {
+            Some(next) => times = next,
+            None => return Ok(()),
         }
     }
-}
-
-fn main() {
-    let n = os::arg_count();
-    let mut times: u64 = 1;
-    let mut i: usize = 1;
-    while i < n {
-        times = argument(i, times);
-        i += 1;
-    }
+    Ok(())
 }

@@ -3,12 +3,18 @@
 // log are put back before each merge, so that a file that does not wait measures this and the test of the tables alone. Time is taken from
 // outside.
 #![tactic(auto)]
-ghost use Rattle.std.specs.Prelude.{◌≡◌, ◌≤◌, length};
+
+ghost use Rattle.std.specs.Prelude.{◌≡◌, ◌≤◌, length, IfOk};
 
 use deck::fields::{Num, number};
 use load::load::load;
 use merge::calls::{MergeAnswer, copy, merge};
 use merge_log::refusals::Refusal;
+use std::env::FillError;
+use std::fs::File;
+use std::io;
+use std::io::{ErrorKind, Read};
+use std::rt::{Env, Files};
 use tables::elements::ELEMENTS_SIZE;
 use tables::limits::DECK_LIMIT;
 use tables::log::LOG_SIZE;
@@ -22,13 +28,13 @@ struct Work {
     times: u64,
 }
 
-fn word(s: &[u8]) {
-    io::write_all(libc::STDOUT_FILENO, s);
+fn word(rt: &impl Print, s: &[u8]) -> io::Result<()> {
+    rt.write_all(s)
 }
 
-fn field(n: u64) {
-    word(b",");
-    io::print_decimal(libc::STDOUT_FILENO, n);
+fn field(rt: &impl Print, n: u64) -> io::Result<()> {
+    word(rt, b",")?;
+    rt.print(n)
 }
 
 // The merge on model and log as they were loaded.
@@ -96,23 +102,23 @@ fn refusal_number(r: Refusal) -> u64 {
     }
 }
 
-fn answer(a: MergeAnswer) {
+fn answer(rt: &impl Print, a: MergeAnswer) -> io::Result<()> {
     match a {
         MergeAnswer::Merged(c) => {
-            word(b"merged");
-            field(c.imports as u64);
-            field(c.restrictions as u64);
-            field(c.extensions as u64);
+            word(rt, b"merged")?;
+            field(rt, c.imports as u64)?;
+            field(rt, c.restrictions as u64)?;
+            field(rt, c.extensions as u64)
         }
         MergeAnswer::Refused(r) => {
-            word(b"refused");
-            field(refusal_number(r));
+            word(rt, b"refused")?;
+            field(rt, refusal_number(r))
         }
-        MergeAnswer::BadTables => word(b"refused,0"),
+        MergeAnswer::BadTables => word(rt, b"refused,0"),
     }
 }
 
-fn merge_deck(deck: &[u8], file: u64, times: u64) {
+fn merge_deck(rt: &impl Print, deck: &[u8], file: u64, times: u64) -> io::Result<()> {
     let mut schema = [0u64; SCHEMA_SIZE];
     let mut elements = [0u64; ELEMENTS_SIZE];
     let mut old_model = [0u64; MODEL_SIZE];
@@ -126,60 +132,95 @@ fn merge_deck(deck: &[u8], file: u64, times: u64) {
         &mut old_model,
         &mut old_log,
     );
-    answer(merge_anew(
-        deck, &schema, &elements, &old_model, &old_log, &mut model, &mut log, file,
-    ));
-    word(b" accepted ");
-    io::print_decimal(
-        libc::STDOUT_FILENO,
-        merge_often(
-            deck, &schema, &elements, &old_model, &old_log, &mut model, &mut log, file, times,
+    answer(
+        rt,
+        merge_anew(
+            deck, &schema, &elements, &old_model, &old_log, &mut model, &mut log, file,
         ),
-    );
-    word(b"\n");
+    )?;
+    word(rt, b" accepted ")?;
+    rt.print(merge_often(
+        deck, &schema, &elements, &old_model, &old_log, &mut model, &mut log, file, times,
+    ))?;
+    word(rt, b"\n")
 }
 
-fn merge_open(fd: i32, file: u64, times: u64) {
-    let mut deck = [0u8; DECK_LIMIT + 1];
-    let n = io::read_full(fd, &mut deck);
-    merge_deck(&deck[..n], file, times);
-}
-
-fn merge_file(name: &[u8], file: u64, times: u64) {
-    let fd = os::open_read(name);
-    if fd < 0 {
-        os::fail(name);
-        return;
+// Fills the buffer as far as the file goes; the count of bytes read.
+fn read_full(file: &mut impl Read, buf: &mut [u8]) -> io::Result<usize>
+    ensures { IfOk result (λ n. n ≤ length buf.new) }
+{
+    let mut n: usize = 0;
+    while n < buf.len() {
+        let more = file.read(&mut buf[n..])?;
+        if more == 0 {
+            return Ok(n);
+        }
+        n += more;
     }
-    word(name);
-    word(b" ");
-    merge_open(fd, file, times);
-    libc::close(fd);
+    Ok(n)
 }
 
-// The i-th argument, a deck or a number; what is asked of the decks behind it.
-fn argument(i: usize, w: Work) -> Work {
-    let mut name = io::buffer();
-    let n = os::arg(i, &mut name);
-    let v = number(&name[..n], 10, 1000000);
+fn merge_open(rt: &impl Print, file: &mut impl Read, number: u64, times: u64) -> io::Result<()> {
+    let mut deck = [0u8; DECK_LIMIT + 1];
+    let n = read_full(file, &mut deck)?;
+    merge_deck(rt, &deck[..n], number, times)
+}
+
+fn merge_file(
+    rt: &(impl Files + Print + Eprint),
+    name: &str,
+    number: u64,
+    times: u64,
+) -> io::Result<()> {
+    match File::open(rt, name) {
+        Ok(mut file) => {
+            rt.print(name)?;
+            word(rt, b" ")?;
+            merge_open(rt, &mut file, number, times)
+        }
+        Err(error) => eprintln!(rt; "{name}: {error}"),
+    }
+}
+
+// What the word says, a deck or a number; what is asked of the decks behind it.
+fn merge_word(rt: &(impl Files + Print + Eprint), word: &[u8], w: Work) -> io::Result<Work> {
+    let v = number(word, 10, 1000000);
     match v {
-        Num::Number(m) => Work {
+        Num::Number(m) => Ok(Work {
             file: w.times,
             times: m,
+        }),
+        Num::Bad => match std::str::from_utf8(word) {
+            Ok(name) => {
+                merge_file(rt, name, w.file, w.times)?;
+                Ok(w)
+            }
+            Err(_) => Err(io::Error::from(ErrorKind::InvalidInput)),
         },
-        Num::Bad => {
-            merge_file(&name[..n], w.file, w.times);
-            w
-        }
     }
 }
 
-fn main() {
-    let n = os::arg_count();
-    let mut w = Work { file: 1, times: 1 };
-    let mut i: usize = 1;
-    while i < n {
-        w = argument(i, w);
-        i += 1;
+// The i-th argument, a deck or a number; what is asked of the decks behind it. Nothing where there are no more.
+fn argument(
+    rt: &(impl Env + Files + Print + Eprint),
+    i: usize,
+    w: Work,
+) -> io::Result<Option<Work>> {
+    let mut word = [0u8; 4096];
+    match rt.arg(i, &mut word) {
+        Ok(n) => Ok(Some(merge_word(rt, &word[..n], w)?)),
+        Err(FillError::NotPresent) => Ok(None),
+        Err(FillError::TooLong) => Err(io::Error::from(ErrorKind::InvalidFilename)),
     }
+}
+
+fn main(rt: HostRuntime) -> io::Result<()> {
+    let mut w = Work { file: 1, times: 1 };
+    for i in 1..usize::MAX {
+        match argument(&rt, i, w)? {
+            Some(next) => w = next,
+            None => return Ok(()),
+        }
+    }
+    Ok(())
 }

@@ -1,6 +1,6 @@
 // Cells of the tables.
 ghost use Rattle.std.specs.Prelude.{◌≤◌, length};
-ghost use Rattle.io.specs.Counts.{IsPrefixLen};
+ghost use Rattle.printing.specs.Counts.{IsPrefixLen};
 
 use crate::areas::Area;
 use printing::buffer::{Written, append_number};

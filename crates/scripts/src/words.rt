@@ -1,4 +1,5 @@
 // What a run can still show of functions that are held to equations: machine words, floats and bytes as compiled.
+use std::io;
 use tables::file_set::FileSet;
 use tables::limits::FILE_LIMIT;
 use tables::numbers::FileNumber;
@@ -8,250 +9,249 @@ use tables::text::{Place, Text};
 
 // ---- what is printed: words, and numbers each behind a space
 
-fn word(s: &[u8]) {
-    io::write_all(libc::STDOUT_FILENO, s);
+fn word(rt: &impl Print, s: &[u8]) -> io::Result<()> {
+    rt.write_all(s)
 }
 
-fn number(n: u64) {
-    word(b" ");
-    io::print_decimal(libc::STDOUT_FILENO, n);
+fn number(rt: &impl Print, n: u64) -> io::Result<()> {
+    word(rt, b" ")?;
+    rt.print(n)
 }
 
-fn truth(b: bool) {
-    if b {
-        word(b" 1");
-    } else {
-        word(b" 0");
-    }
+fn truth(rt: &impl Print, b: bool) -> io::Result<()> {
+    if b { word(rt, b" 1") } else { word(rt, b" 0") }
 }
 
-fn end() {
-    word(b"\n");
+fn end(rt: &impl Print) -> io::Result<()> {
+    word(rt, b"\n")
 }
 
 // ---- file sets, at the first and the last file and past it
 
 const LAST: u64 = FILE_LIMIT - 1;
 
-fn show_set(s: FileSet) {
-    number(s.bits());
+fn show_set(rt: &impl Print, s: FileSet) -> io::Result<()> {
+    number(rt, s.bits())
 }
 
-fn holds(s: FileSet) {
-    word(b"holds");
-    truth(s.holds(FileNumber(LAST)));
-    truth(s.holds(FileNumber(0)));
-    truth(s.holds(FileNumber(5)));
-    truth(s.holds(FileNumber(FILE_LIMIT)));
-    end();
+fn holds(rt: &impl Print, s: FileSet) -> io::Result<()> {
+    word(rt, b"holds")?;
+    truth(rt, s.holds(FileNumber(LAST)))?;
+    truth(rt, s.holds(FileNumber(0)))?;
+    truth(rt, s.holds(FileNumber(5)))?;
+    truth(rt, s.holds(FileNumber(FILE_LIMIT)))?;
+    end(rt)
 }
 
-fn with(s: FileSet) {
-    word(b"with");
-    show_set(s.with(FileNumber(5)));
-    show_set(s.with(FileNumber(LAST)));
-    end();
+fn with(rt: &impl Print, s: FileSet) -> io::Result<()> {
+    word(rt, b"with")?;
+    show_set(rt, s.with(FileNumber(5)))?;
+    show_set(rt, s.with(FileNumber(LAST)))?;
+    end(rt)
 }
 
-fn without(s: FileSet) {
-    word(b"without");
-    show_set(s.without(FileNumber(LAST)));
-    show_set(s.without(FileNumber(0)));
-    show_set(s.without(FileNumber(5)));
-    show_set(s.without(FileNumber(200)));
-    end();
+fn without(rt: &impl Print, s: FileSet) -> io::Result<()> {
+    word(rt, b"without")?;
+    show_set(rt, s.without(FileNumber(LAST)))?;
+    show_set(rt, s.without(FileNumber(0)))?;
+    show_set(rt, s.without(FileNumber(5)))?;
+    show_set(rt, s.without(FileNumber(200)))?;
+    end(rt)
 }
 
-fn others(s: FileSet) {
-    word(b"empty");
-    truth(FileSet::none().is_empty());
-    truth(s.is_empty());
-    end();
-    word(b"part of");
-    truth(FileSet::from_bits(1).part_of(s));
-    truth(FileSet::from_bits(3).part_of(s));
-    truth(FileSet::none().part_of(s));
-    truth(s.part_of(FileSet::from_bits(1)));
-    end();
+fn others(rt: &impl Print, s: FileSet) -> io::Result<()> {
+    word(rt, b"empty")?;
+    truth(rt, FileSet::none().is_empty())?;
+    truth(rt, s.is_empty())?;
+    end(rt)?;
+    word(rt, b"part of")?;
+    truth(rt, FileSet::from_bits(1).part_of(s))?;
+    truth(rt, FileSet::from_bits(3).part_of(s))?;
+    truth(rt, FileSet::none().part_of(s))?;
+    truth(rt, s.part_of(FileSet::from_bits(1)))?;
+    end(rt)
 }
 
-fn file_sets() {
+fn file_sets(rt: &impl Print) -> io::Result<()> {
     let s = FileSet::from_bits(0x8000_0000_0000_0001);
-    holds(s);
-    with(s);
-    without(s);
-    others(s);
+    holds(rt, s)?;
+    with(rt, s)?;
+    without(rt, s)?;
+    others(rt, s)
 }
 
 // ---- paths: 1.2.3, 1.2, 1.2.4.0 and the empty one, each part held as part + 1
 
-fn show_order(o: Order) {
+fn show_order(rt: &impl Print, o: Order) -> io::Result<()> {
     match o {
-        Order::Less => word(b" less"),
-        Order::Equal => word(b" equal"),
-        Order::Greater => word(b" greater"),
+        Order::Less => word(rt, b" less"),
+        Order::Equal => word(rt, b" equal"),
+        Order::Greater => word(rt, b" greater"),
     }
 }
 
-fn show_path(p: Path) {
-    word(b" path");
-    number(p.0);
-    number(p.1);
-    number(p.2);
-    number(p.3);
+fn show_path(rt: &impl Print, p: Path) -> io::Result<()> {
+    word(rt, b" path")?;
+    number(rt, p.0)?;
+    number(rt, p.1)?;
+    number(rt, p.2)?;
+    number(rt, p.3)
 }
 
-fn parts(r: Path) {
-    word(b"parts");
-    number(r.part(0));
-    number(r.part(1));
-    number(r.part(2));
-    number(r.part(3));
-    number(r.part(4));
-    end();
+fn parts(rt: &impl Print, r: Path) -> io::Result<()> {
+    word(rt, b"parts")?;
+    number(rt, r.part(0))?;
+    number(rt, r.part(1))?;
+    number(rt, r.part(2))?;
+    number(rt, r.part(3))?;
+    number(rt, r.part(4))?;
+    end(rt)
 }
 
-fn orders(p: Path, q: Path, r: Path, e: Path) {
-    word(b"order");
-    show_order(p.order(q));
-    show_order(q.order(p));
-    show_order(p.order(p));
-    show_order(p.order(r));
-    show_order(e.order(p));
-    end();
+fn orders(rt: &impl Print, p: Path, q: Path, r: Path, e: Path) -> io::Result<()> {
+    word(rt, b"order")?;
+    show_order(rt, p.order(q))?;
+    show_order(rt, q.order(p))?;
+    show_order(rt, p.order(p))?;
+    show_order(rt, p.order(r))?;
+    show_order(rt, e.order(p))?;
+    end(rt)
 }
 
-fn same_paths(p: Path, r: Path) {
-    word(b"same");
-    truth(p.same(p));
-    truth(p.same(r));
-    end();
+fn same_paths(rt: &impl Print, p: Path, r: Path) -> io::Result<()> {
+    word(rt, b"same")?;
+    truth(rt, p.same(p))?;
+    truth(rt, p.same(r))?;
+    end(rt)
 }
 
-fn shared(p: Path, q: Path, r: Path, e: Path) {
-    word(b"shared");
-    show_path(p.shared(r));
-    show_path(p.shared(q));
-    show_path(r.shared(r));
-    show_path(e.shared(r));
-    end();
+fn shared(rt: &impl Print, p: Path, q: Path, r: Path, e: Path) -> io::Result<()> {
+    word(rt, b"shared")?;
+    show_path(rt, p.shared(r))?;
+    show_path(rt, p.shared(q))?;
+    show_path(rt, r.shared(r))?;
+    show_path(rt, e.shared(r))?;
+    end(rt)
 }
 
-fn paths() {
+fn paths(rt: &impl Print) -> io::Result<()> {
     let p = Path(2, 3, 4, 0);
     let q = Path(2, 3, 0, 0);
     let r = Path(2, 3, 5, 1);
     let e = Path(0, 0, 0, 0);
-    parts(r);
-    orders(p, q, r, e);
-    same_paths(p, r);
-    shared(p, q, r, e);
+    parts(rt, r)?;
+    orders(rt, p, q, r, e)?;
+    same_paths(rt, p, r)?;
+    shared(rt, p, q, r, e)
 }
 
 // ---- texts: as a table holds them, and when two are equal
 
-fn show_text(t: Text) {
+fn show_text(rt: &impl Print, t: Text) -> io::Result<()> {
     match t {
         Text::Number(n) => {
-            word(b" number");
-            number(n);
+            word(rt, b" number")?;
+            number(rt, n)
         }
         Text::Str(p) => {
             let a = p.start;
             let n = p.size;
-            word(b" string");
-            number(a as u64);
-            number(n as u64);
+            word(rt, b" string")?;
+            number(rt, a as u64)?;
+            number(rt, n as u64)
         }
         Text::Whole(n) => {
-            word(b" whole");
-            number(n);
+            word(rt, b" whole")?;
+            number(rt, n)
         }
         Text::Float(x) => {
-            word(b" float");
-            truth(text::same_float(x, 1.5));
+            word(rt, b" float")?;
+            truth(rt, text::same_float(x, 1.5))
         }
     }
 }
 
-fn texts() {
-    word(b"texts");
-    show_text(text::text_of(0, 7));
-    show_text(text::text_of(1, 196610));
-    show_text(text::text_of(2, 18446744073709551615));
-    show_text(text::text_of(3, 0x3ff8_0000_0000_0000));
-    end();
+fn texts(rt: &impl Print) -> io::Result<()> {
+    word(rt, b"texts")?;
+    show_text(rt, text::text_of(0, 7))?;
+    show_text(rt, text::text_of(1, 196610))?;
+    show_text(rt, text::text_of(2, 18446744073709551615))?;
+    show_text(rt, text::text_of(3, 0x3ff8_0000_0000_0000))?;
+    end(rt)
 }
 
-fn floats(a: u64, b: u64) {
-    truth(text::same_float(text::float_of(a), text::float_of(b)));
-    truth(text::same_text(
-        Text::Float(text::float_of(a)),
-        Text::Float(text::float_of(b)),
-        b"",
-    ));
+fn floats(rt: &impl Print, a: u64, b: u64) -> io::Result<()> {
+    truth(rt, text::same_float(text::float_of(a), text::float_of(b)))?;
+    truth(
+        rt,
+        text::same_text(
+            Text::Float(text::float_of(a)),
+            Text::Float(text::float_of(b)),
+            b"",
+        ),
+    )
 }
 
 // Two NaNs, both zeros, both infinities, a NaN and zero, one and two, the smallest number and zero, and itself.
-fn all_floats() {
-    word(b"same float");
-    floats(0x7ff8_0000_0000_0001, 0xfff0_0000_0000_0002);
-    floats(0, 0x8000_0000_0000_0000);
-    floats(0x7ff0_0000_0000_0000, 0xfff0_0000_0000_0000);
-    floats(0x7ff8_0000_0000_0001, 0);
-    floats(0x3ff0_0000_0000_0000, 0x4000_0000_0000_0000);
-    floats(1, 0);
-    floats(1, 1);
-    end();
+fn all_floats(rt: &impl Print) -> io::Result<()> {
+    word(rt, b"same float")?;
+    floats(rt, 0x7ff8_0000_0000_0001, 0xfff0_0000_0000_0002)?;
+    floats(rt, 0, 0x8000_0000_0000_0000)?;
+    floats(rt, 0x7ff0_0000_0000_0000, 0xfff0_0000_0000_0000)?;
+    floats(rt, 0x7ff8_0000_0000_0001, 0)?;
+    floats(rt, 0x3ff0_0000_0000_0000, 0x4000_0000_0000_0000)?;
+    floats(rt, 1, 0)?;
+    floats(rt, 1, 1)?;
+    end(rt)
 }
 
-fn strings(deck: &[u8], a: usize, m: usize, b: usize, n: usize) {
+fn strings(rt: &impl Print, deck: &[u8], a: usize, m: usize, b: usize, n: usize) -> io::Result<()> {
     let size = deck.len();
     if size < a {
-        return;
+        return Ok(());
     }
     if size - a < m {
-        return;
+        return Ok(());
     }
     if size < b {
-        return;
+        return Ok(());
     }
     if size - b < n {
-        return;
+        return Ok(());
     }
     let p = Place { start: a, size: m };
     let q = Place { start: b, size: n };
-    truth(text::same_string(p, q, deck));
-    truth(text::same_text(Text::Str(p), Text::Str(q), deck));
+    truth(rt, text::same_string(p, q, deck))?;
+    truth(rt, text::same_text(Text::Str(p), Text::Str(q), deck))
 }
 
-fn all_strings(deck: &[u8]) {
-    word(b"same string");
-    strings(deck, 0, 3, 3, 3);
-    strings(deck, 0, 3, 6, 3);
-    strings(deck, 0, 3, 3, 2);
-    strings(deck, 9, 0, 0, 0);
-    end();
+fn all_strings(rt: &impl Print, deck: &[u8]) -> io::Result<()> {
+    word(rt, b"same string")?;
+    strings(rt, deck, 0, 3, 3, 3)?;
+    strings(rt, deck, 0, 3, 6, 3)?;
+    strings(rt, deck, 0, 3, 3, 2)?;
+    strings(rt, deck, 9, 0, 0, 0)?;
+    end(rt)
 }
 
-fn numbers() {
-    word(b"same number");
-    truth(text::same_text(Text::Number(7), Text::Number(7), b""));
-    truth(text::same_text(Text::Number(7), Text::Number(8), b""));
-    truth(text::same_text(Text::Whole(7), Text::Whole(7), b""));
-    truth(text::same_text(Text::Number(7), Text::Whole(7), b""));
-    end();
+fn numbers(rt: &impl Print) -> io::Result<()> {
+    word(rt, b"same number")?;
+    truth(rt, text::same_text(Text::Number(7), Text::Number(7), b""))?;
+    truth(rt, text::same_text(Text::Number(7), Text::Number(8), b""))?;
+    truth(rt, text::same_text(Text::Whole(7), Text::Whole(7), b""))?;
+    truth(rt, text::same_text(Text::Number(7), Text::Whole(7), b""))?;
+    end(rt)
 }
 
-fn all_texts() {
-    texts();
-    all_floats();
-    all_strings(b"abcabcabd");
-    numbers();
+fn all_texts(rt: &impl Print) -> io::Result<()> {
+    texts(rt)?;
+    all_floats(rt)?;
+    all_strings(rt, b"abcabcabd")?;
+    numbers(rt)
 }
 
-pub fn run() {
-    file_sets();
-    paths();
-    all_texts();
+pub fn run(rt: &impl Print) -> io::Result<()> {
+    file_sets(rt)?;
+    paths(rt)?;
+    all_texts(rt)
 }

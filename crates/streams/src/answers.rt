@@ -1,13 +1,16 @@
 // Files by name and ending, and what a test program printed, held to one of them.
 ghost use Rattle.std.specs.Prelude.{◌≤◌, length};
-ghost use Rattle.io.specs.Counts.{IsPrefixLen};
+ghost use Rattle.printing.specs.Counts.{IsPrefixLen};
 
 use crate::buffer::{MEGABYTE, megabyte};
-use crate::input::{Input, read_all};
+use crate::files::open_read;
+use crate::input::{Input, failed, read_all};
 use deck::lines::line_end;
+use std::io;
+use std::rt::Files;
 
-pub fn word(s: &[u8]) {
-    io::write_all(libc::STDOUT_FILENO, s);
+pub fn word(rt: &impl Print, s: &[u8]) -> io::Result<()> {
+    rt.write_all(s)
 }
 
 // The text behind the bytes that stand at the buffer's start, as far as there is room: how many stand there then.
@@ -29,16 +32,16 @@ fn append(buf: &mut [u8], at: usize, text: &[u8]) -> usize
 }
 
 // The file of this name and ending, as far as the buffer has room.
-pub fn read_file(name: &[u8], ending: &[u8], buf: &mut [u8]) -> Input
+pub fn read_file(rt: &impl Files, name: &[u8], ending: &[u8], buf: &mut [u8]) -> Input
     ensures { IsPrefixLen result.count buf.new }
 {
-    let mut path = io::buffer();
+    let mut path = [0u8; 4096];
     let n = append(&mut path, 0, name);
     let m = append(&mut path, n, ending);
-    let fd = os::open_read(&path[..m]);
-    let r = read_all(fd, buf);
-    libc::close(fd);
-    r
+    match open_read(rt, &path[..m]) {
+        Ok(mut file) => read_all(&mut file, buf),
+        Err(error) => failed(0, error),
+    }
 }
 
 // The first place where two texts differ, or where one ends: its line's number, and where that line begins.
@@ -95,46 +98,45 @@ fn first_line(text: &[u8]) -> usize
 }
 
 // The first line of a text, behind a title.
-fn show_line(title: &[u8], text: &[u8]) {
-    word(title);
+fn show_line(rt: &impl Print, title: &[u8], text: &[u8]) -> io::Result<()> {
+    word(rt, title)?;
     if text.len() == 0 {
-        word(b"no line\n");
-        return;
+        return word(rt, b"no line\n");
     }
     let n = first_line(text);
-    word(&text[..n]);
-    word(b"\n");
+    word(rt, &text[..n])?;
+    word(rt, b"\n")
 }
 
 // Whether the two are the same; where not, the first line that differs.
-fn compare(name: &[u8], printed: &[u8], expected: &[u8]) -> bool {
+fn compare(rt: &impl Print, name: &[u8], printed: &[u8], expected: &[u8]) -> io::Result<bool> {
     let d = first_difference(printed, expected);
     if (d.at == printed.len()) & (d.at == expected.len()) {
-        return true;
+        return Ok(true);
     }
     let start = d.start;
-    word(name);
-    word(b": line ");
-    io::print_decimal(libc::STDOUT_FILENO, d.line);
-    show_line(b"\n  expected: ", &expected[start..]);
-    show_line(b"  printed:  ", &printed[start..]);
-    false
+    word(rt, name)?;
+    word(rt, b": line ")?;
+    rt.print(d.line)?;
+    show_line(rt, b"\n  expected: ", &expected[start..])?;
+    show_line(rt, b"  printed:  ", &printed[start..])?;
+    Ok(false)
 }
 
 // Whether the file of this name and the ending `.out` has just these bytes; where not, what is wrong.
-pub fn held(name: &[u8], printed: &[u8]) -> bool {
+pub fn held(rt: &(impl Files + Print), name: &[u8], printed: &[u8]) -> io::Result<bool> {
     let mut expected = megabyte();
-    let r = read_file(name, b".out", &mut expected);
+    let r = read_file(rt, name, b".out", &mut expected);
     if !r.whole {
-        word(name);
-        word(b": no answer in a file\n");
-        return false;
+        word(rt, name)?;
+        word(rt, b": no answer in a file\n")?;
+        return Ok(false);
     }
     if MEGABYTE <= printed.len() {
-        word(name);
-        word(b": longer than an answer may be\n");
-        return false;
+        word(rt, name)?;
+        word(rt, b": longer than an answer may be\n")?;
+        return Ok(false);
     }
     let n = r.count;
-    compare(name, printed, &expected[..n])
+    compare(rt, name, printed, &expected[..n])
 }

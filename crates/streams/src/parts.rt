@@ -1,8 +1,11 @@
 // The output, written part by part.
-ghost use Rattle.io.specs.Counts.{IsPrefixLen};
+ghost use Rattle.printing.specs.Counts.{IsPrefixLen};
 
 use crate::buffer::{MEGABYTE, megabyte};
+use crate::files::fail;
 use output::print::{print_calls, print_output};
+use std::io;
+use std::io::ErrorKind;
 
 // Parts begin up to here; no run prints as much.
 const LAST_PART: usize = 0x7fff_ffff_ffff_ffff;
@@ -17,26 +20,41 @@ pub fn part(deck: &[u8], calls: &[u8], listed: bool, from: usize, out: &mut [u8]
     print_output(deck, from, out)
 }
 
-// Whether another part may follow: this one is full, and is written.
-fn write_part(part: &[u8]) -> bool {
-    if !io::write_all(libc::STDOUT_FILENO, part) {
-        os::fail(b"standard output");
-        return false;
+// Whether another part may follow: this one is full, and is written. A reader that wants no more is for the caller to answer, without a word here.
+fn write_part(rt: &(impl Print + Eprint + Alloc), part: &[u8]) -> io::Result<bool> {
+    match rt.write_all(part) {
+        Ok(()) => Ok(part.len() == MEGABYTE),
+        Err(error) if error.kind() == ErrorKind::BrokenPipe => Err(error),
+        Err(error) => {
+            fail(rt, "standard output", error)?;
+            Ok(false)
+        }
     }
-    part.len() == MEGABYTE
 }
 
 // The part that begins at this byte.
-fn print_part(deck: &[u8], calls: &[u8], listed: bool, from: usize) -> bool {
+fn print_part(
+    rt: &(impl Print + Eprint + Alloc),
+    deck: &[u8],
+    calls: &[u8],
+    listed: bool,
+    from: usize,
+) -> io::Result<bool> {
     let mut out = megabyte();
     let n = part(deck, calls, listed, from, &mut out);
-    write_part(&out[..n])
+    write_part(rt, &out[..n])
 }
 
 // All parts.
-pub fn print_all(deck: &[u8], calls: &[u8], listed: bool) {
+pub fn print_all(
+    rt: &(impl Print + Eprint + Alloc),
+    deck: &[u8],
+    calls: &[u8],
+    listed: bool,
+) -> io::Result<()> {
     let mut from: usize = 0;
-    while from <= LAST_PART && print_part(deck, calls, listed, from) {
+    while from <= LAST_PART && print_part(rt, deck, calls, listed, from)? {
         from += MEGABYTE;
     }
+    Ok(())
 }

@@ -3,98 +3,143 @@
 //
 // What is printed is proved, in `output`.
 #![tactic(auto)]
+
+use std::env::FillError;
+use std::io;
+use std::io::{ErrorKind, Read};
+use std::process::ExitCode;
+use std::rt::{Env, Files};
 use streams::buffer::{deck_buffer, megabyte};
+use streams::files::{fail, open_read};
 use streams::input::{CALLS_LIMIT, read_all};
 use streams::parts::print_all;
 
-// A line on standard error: what it is about, and why.
-fn complain(what: &[u8], why: &[u8]) {
-    io::write_all(libc::STDERR_FILENO, what);
-    io::write_all(libc::STDERR_FILENO, why);
-}
-
 // The deck, with the calls of a list where there is one. Of a longer deck, one byte more than a deck may have is handed on: it is refused.
-fn run(name: &[u8], fd: i32, calls: &[u8], listed: bool) {
+fn run(
+    rt: &(impl Print + Eprint + Alloc),
+    name: &str,
+    file: &mut impl Read,
+    calls: &[u8],
+    listed: bool,
+) -> io::Result<()> {
     let mut deck = deck_buffer();
-    let r = read_all(fd, &mut deck);
-    if !r.whole {
-        os::fail(name);
-        return;
+    let r = read_all(file, &mut deck);
+    if let Some(error) = r.error {
+        return fail(rt, name, error);
     }
     let n = r.count;
-    print_all(&deck[..n], calls, listed);
+    print_all(rt, &deck[..n], calls, listed)
 }
 
 // The deck in the file of this name.
-fn run_file(name: &[u8], calls: &[u8], listed: bool) {
-    let fd = os::open_read(name);
-    if fd < 0 {
-        os::fail(name);
-        return;
+fn run_file(
+    rt: &(impl Files + Print + Eprint + Alloc),
+    name: &str,
+    calls: &[u8],
+    listed: bool,
+) -> io::Result<()> {
+    match open_read(rt, name.as_bytes()) {
+        Ok(mut file) => run(rt, name, &mut file, calls, listed),
+        Err(error) => fail(rt, name, error),
     }
-    run(name, fd, calls, listed);
-    libc::close(fd);
 }
 
 // The deck in the file of this name, with the calls in an open file.
-fn run_calls(name: &[u8], list: &[u8], fd: i32) {
+fn run_calls(
+    rt: &(impl Files + Print + Eprint + Alloc),
+    name: &str,
+    list: &str,
+    file: &mut impl Read,
+) -> io::Result<()> {
     let mut calls = megabyte();
-    let r = read_all(fd, &mut calls);
-    if !r.whole {
-        os::fail(list);
-        return;
+    let r = read_all(file, &mut calls);
+    if let Some(error) = r.error {
+        return fail(rt, list, error);
     }
     let n = r.count;
     if CALLS_LIMIT < n {
-        complain(
-            list,
-            b": longer than the 1048575 bytes of the largest list of calls\n",
-        );
-        return;
+        return eprintln!(rt; "{list}: longer than the 1048575 bytes of the largest list of calls");
     }
-    run_file(name, &calls[..n], true);
+    run_file(rt, name, &calls[..n], true)
 }
 
-fn run_list(name: &[u8], list: &[u8]) {
-    let fd = os::open_read(list);
-    if fd < 0 {
-        os::fail(list);
-        return;
+fn run_list(rt: &(impl Files + Print + Eprint + Alloc), name: &str, list: &str) -> io::Result<()> {
+    match open_read(rt, list.as_bytes()) {
+        Ok(mut file) => run_calls(rt, name, list, &mut file),
+        Err(error) => fail(rt, list, error),
     }
-    run_calls(name, list, fd);
-    libc::close(fd);
+}
+
+// The i-th argument, where it is text that fits the buffer.
+fn argument<'a>(rt: &impl Env, i: usize, buf: &'a mut [u8]) -> io::Result<&'a str> {
+    match rt.arg(i, buf) {
+        Ok(n) => match std::str::from_utf8(&buf[..n]) {
+            Ok(word) => Ok(word),
+            Err(_) => Err(io::Error::new(ErrorKind::InvalidInput, "the name is no UTF-8 text")),
+        },
+        Err(FillError::NotPresent) => Err(io::Error::from_raw_os_error(22)),
+        Err(FillError::TooLong) => Err(io::Error::from_raw_os_error(36)),
+    }
+}
+
+fn is_given(rt: &impl Env, i: usize) -> bool {
+    let mut word = [0u8; 1];
+    match rt.arg(i, &mut word) {
+        Err(FillError::NotPresent) => false,
+        _ => true,
+    }
+}
+
+// How many arguments there are, the program's own name among them.
+fn arg_count(rt: &impl Env) -> usize {
+    for i in 0..usize::MAX {
+        if !is_given(rt, i) {
+            return i;
+        }
+    }
+    usize::MAX
 }
 
 // By the second argument, the deck of this name alone or with a list of calls.
-fn run_named(name: &[u8], count: usize) {
+fn run_named(
+    rt: &(impl Env + Files + Print + Eprint + Alloc),
+    name: &str,
+    count: usize,
+) -> io::Result<()> {
     if count == 2 {
-        run_file(name, b"", false);
-        return;
+        return run_file(rt, name, b"", false);
     }
-    let mut list = io::buffer();
-    let n = os::arg(2, &mut list);
-    if os::errno() != 0 {
-        os::fail(b"the second argument");
-        return;
+    let mut list = [0u8; 4096];
+    match argument(rt, 2, &mut list) {
+        Ok(list) => run_list(rt, name, list),
+        Err(error) => fail(rt, "the second argument", error),
     }
-    run_list(name, &list[..n]);
 }
 
-fn main() {
-    let count = os::arg_count();
+// By the arguments.
+fn start(rt: &(impl Env + Files + Input + Print + Eprint + Alloc)) -> io::Result<()> {
+    let count = arg_count(rt);
     if 3 < count {
-        complain(b"usage: ", b"zapelaritz [DECK [CALLS]]\n");
-        return;
+        return eprintln!(rt; "usage: zapelaritz [DECK [CALLS]]");
     }
     if count < 2 {
-        run(b"standard input", libc::STDIN_FILENO, b"", false);
-        return;
+        return run(rt, "standard input", &mut rt.reader(), b"", false);
     }
-    let mut name = io::buffer();
-    let n = os::arg(1, &mut name);
-    if os::errno() != 0 {
-        os::fail(b"the first argument");
-        return;
+    let mut name = [0u8; 4096];
+    match argument(rt, 1, &mut name) {
+        Ok(name) => run_named(rt, name, count),
+        Err(error) => fail(rt, "the first argument", error),
     }
-    run_named(&name[..n], count);
+}
+
+// What a shell says of a program that a closed pipe ended.
+const READER_ENDED: u8 = 141;
+
+// A reader that wants no more is no failure to speak of.
+fn main(rt: HostRuntime) -> io::Result<ExitCode> {
+    match start(&rt) {
+        Ok(()) => Ok(ExitCode::SUCCESS),
+        Err(error) if error.kind() == ErrorKind::BrokenPipe => Ok(ExitCode::from(READER_ENDED)),
+        Err(error) => Err(error),
+    }
 }
