@@ -1,3 +1,4 @@
 // The insert range of a content list.
 #![tactic(auto)]
+
 pub mod range;

@@ -19,7 +19,7 @@ use tables::numbers::Element;
 
 // At most `left` levels of elements are printed.
 
-#[cycle(append_element_append_item_append_items)]
+#[cycle(tree)]
 fn append_element(
     deck: &[u8],
     elements: &[u64],
@@ -41,7 +41,7 @@ fn append_element(
 }
 
 // The items of element e.
-#[cycle(append_element_append_item_append_items)]
+#[cycle(tree)]
 fn append_items(
     deck: &[u8],
     elements: &[u64],
@@ -68,7 +68,7 @@ fn append_items(
 }
 
 // Ends where the buffer is full: the lists below may share elements, and print more bytes than any buffer has.
-#[cycle(append_element_append_item_append_items)]
+#[cycle(tree)]
 fn append_item(
     deck: &[u8],
     elements: &[u64],

@@ -1,29 +1,27 @@
 -- Laws of insert ranges: one move by its numbers, one item by its row, the items that are left give the whole, and the range by the
 -- parent's mode. Assumes nothing.
-use mathlib.Core.List.{List, [], ◌∷◌}
+use mathlib.Core.List.{List, []}
 use mathlib.Core.Option.{none, some}
-use mathlib.Core.Path.{◌≡◌, refl, sym, ap, subst, ◌∙◌}
+use mathlib.Core.Path.{◌≡◌, refl, sym, subst, ◌∙◌}
 use Prim.Native.Nat.{ℕ, zero, suc, ◌+◌, ◌*◌, ◌%◌, ◌^◌, ◌≤◌, ◌<◌, Ordering}
 use native.Mathlib.Numerals.{add-one}
 use native.Mathlib.Omega.{arith}
 use lib.ListN.{length, get_or, drop, drop_of_length-le}
-use Rattle.tables.specs.Cells.{Each}
 use Rattle.tables.specs.Limits.{item_limit, version_limit}
 use Rattle.tables.specs.Paths.{path_order, order_of}
 use Rattle.tables.specs.Records.{SchemaPath, Mode, sequence, choice, bag, mixed, characters, Mult, Item, child, text, Fixed, SubElement, Model, type_row, name_of, type_of, list_of}
-use Rattle.tables.specs.ElementsTable.{elements_of, GoodElements}
-use Rattle.tables.specs.ModelTable.{model_of, count_of, ItemBelow, GoodModel}
+use Rattle.tables.specs.ElementsTable.{elements_of}
+use Rattle.tables.specs.ModelTable.{model_of, ItemBelow}
 use Rattle.tables.specs.SchemaTable.{schema_of, mode_number, mode_from, mult_number, mult_from, no_sub_element}
 use Rattle.tables.specs.declared.path.Order.{Order}
 use Rattle.tables.specs.declared.path.Order.TheVariants.{Less, Equal, Greater}
-use Rattle.tables.proofs.Laws.Cells.{each-get_d}
 use Rattle.tables.proofs.Laws.FileSets.{one_shifted}
 use Rattle.tables.proofs.Laws.ModelTable.{start-room, listed_below, item-below}
 use Rattle.tables.proofs.Laws.SchemaTable.{mode-back, mult-back}
 use Rattle.deck.specs.Schema.{find_sub_element, row_of_name, version_mask, find_common_group}
 use Rattle.state_test.specs.StateTest.{fixed_in}
 use Rattle.tables.proofs.Laws.Scans.{drop-next}
-use Rattle.merge_rules.specs.Range.{Range, places, no_row, conflicting, Move, stop, move, clash, equal_path, move_by, move_at, read_content, range_in, calc_element_insert_range}
+use Rattle.merge_rules.specs.Range.{Range, places, no_row, conflicting, stop, move, clash, equal_path, move_by, move_at, read_content, range_in, calc_element_insert_range}
 use Rattle.merge_rules.proofs.Laws.Range.{RangeFits, range-fits}
 use Rattle.insert_range.specs.declared.range.Move as step
 use Rattle.insert_range.specs.declared.range.Move.TheVariants.{Stop, To, Clash}
