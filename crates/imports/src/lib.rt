@@ -1,3 +1,4 @@
 // The import of elements.
 #![tactic(auto)]
+
 pub mod import;

@@ -1,10 +1,8 @@
 -- The range decides on the import of one element; the B-only list, some rows at a time. Assumes nothing.
 use mathlib.Core.List.{List, [], ◌∷◌, ◌++◌}
-use mathlib.Core.Logic.{inl, inr}
-use mathlib.Core.Path.{◌≡◌, refl, sym, ap, subst, ◌∙◌}
+use mathlib.Core.Path.{◌≡◌, refl, sym, ap, ◌∙◌}
 use Prim.Native.Nat.{ℕ, suc, ◌+◌, ◌-◌, ◌≤◌}
 use native.Mathlib.Omega.{arith}
-use denote.Enum.Declared.{tag_of}
 use lib.ListN.{length}
 use Rattle.tables.specs.ElementsTable.{elements_of}
 use Rattle.tables.specs.Records.{Element, FileNumber, Version, State, Fixed, name_of}
@@ -22,7 +20,6 @@ use Rattle.insert_range.specs.declared.range.Range as range
 use Rattle.insert_range.specs.declared.range.Range.TheVariants.{Places, NoRow, Conflicting}
 use Rattle.merge_log.specs.declared.refusals.Outcome as step
 use Rattle.merge_log.specs.declared.refusals.Outcome.TheVariants.{Done, Conflict, Refused}
-use Rattle.merge_log.specs.contracts.refusals.Outcome.{the_type}
 
 -- ---- the range decides
 

@@ -1,11 +1,10 @@
 -- Rows of the B-only list that are put in together. Assumes nothing.
 use mathlib.Core.Bool.{Bool, true}
-use mathlib.Core.List.{List, [], ◌∷◌}
+use mathlib.Core.List.{List}
 use mathlib.Core.Logic.{◌⊎◌, inl, inr}
 use mathlib.Core.Path.{◌≡◌, refl, sym, ap, ◌∙◌}
 use Prim.Native.Nat.{ℕ, suc, ◌+◌, ◌-◌, ◌≤◌, ◌<◌, zero-le}
 use native.Mathlib.Omega.{arith}
-use denote.Enum.Declared.{tag_of}
 use lib.ListN.{length}
 use Rattle.tables.specs.ElementsTable.{elements_of}
 use Rattle.tables.specs.Limits.{item_limit}
@@ -26,7 +25,6 @@ use Rattle.merge_log.specs.Runs.{RunIn}
 use Rattle.merge_log.specs.declared.log.Run.{Run}
 use Rattle.merge_log.specs.declared.refusals.Outcome as step
 use Rattle.merge_log.specs.declared.refusals.Outcome.TheVariants.{Done}
-use Rattle.merge_log.specs.contracts.refusals.Outcome.{the_type}
 use Rattle.imports.proofs.Laws.Imports.{then-done, then-stop}
 use Rattle.merge_log.proofs.Laws.Runs.{remove-none}
 

@@ -1,0 +1,20 @@
+use Rattle.state_test.specs.StateTest.{fixed_in, state_in}
+use mathlib.Core.Path.{◌∙◌}
+use Rattle.imports.proofs.Laws.Imports.{clamp-within, single-places, single-no-row, single-conflict}
+use Rattle.imports.proofs.import.import_single_item.Goals as goal
+
+pub calc_element_insert_range-r-requires : goal.calc_element_insert_range-r-requires
+calc_element_insert_range-r-requires c = record { good_schema = c.requires.good_schema; good_elements = c.requires.good_elements; each = c.requires.each; model_over = c.requires.model_over; p_in_bounds = c.requires.p_in_bounds; v_lt_version_limit = c.requires.v_lt_version_limit }
+
+pub import_at-requires : goal.import_at-requires
+import_at-requires c =
+    let z = c.requires.model_over.same in record { good_model = c.requires.model_over.good; good_log = c.requires.good_log; p_bound = rw z c.requires.p_in_bounds; e_bound = rw z c.requires.e_in_bounds; at_in_bounds = clamp-within c.args.wanted c.in-Places.first c.in-Places.last _ c.calc_element_insert_range-r.result c.calc_element_insert_range-r.ensures.within c.in-Places.is c.clamp-at.result c.clamp-at.ensures; f_lt_file_limit = c.requires.f_lt_file_limit }
+
+pub returns-in-Places : goal.returns-in-Places
+returns-in-Places c = record { by_index = λ deck. c.import_at.ensures.log_after ∙ single-places (fixed_in deck c.args.schema.now c.args.elements.now) (state_in c.args.model.now c.args.log.now) c.args.f.0 c.args.v c.args.p.0 c.args.e.0 c.args.wanted c.calc_element_insert_range-r.result (rw (← c.element_name-n.ensures) (c.calc_element_insert_range-r.ensures.is deck)) c.in-Places.first c.in-Places.last c.clamp-at.result c.in-Places.is c.clamp-at.ensures; keeps_state = c.import_at.ensures.keeps_state }
+
+pub returns-in-NoRow : goal.returns-in-NoRow
+returns-in-NoRow c = record { by_index = λ deck. rw c.element_name-n.ensures (single-no-row (fixed_in deck c.args.schema.now c.args.elements.now) (state_in c.args.model.now c.args.log.now) c.args.f.0 c.args.v c.args.p.0 c.args.e.0 c.args.wanted c.calc_element_insert_range-r.result (rw (← c.element_name-n.ensures) (c.calc_element_insert_range-r.ensures.is deck)) c.in-NoRow.is); keeps_state = λ n texts s. s }
+
+pub returns-in-Conflicting : goal.returns-in-Conflicting
+returns-in-Conflicting c = record { by_index = λ deck. single-conflict (fixed_in deck c.args.schema.now c.args.elements.now) (state_in c.args.model.now c.args.log.now) c.args.f.0 c.args.v c.args.p.0 c.args.e.0 c.args.wanted c.calc_element_insert_range-r.result (rw (← c.element_name-n.ensures) (c.calc_element_insert_range-r.ensures.is deck)) c.in-Conflicting.is; keeps_state = λ n texts s. s }
