@@ -1,3 +1,4 @@
 // What becomes of a pair: the extension, or the fallback.
 #![tactic(auto)]
+
 pub mod settle;

@@ -1,14 +1,9 @@
 -- What becomes of a pair's level on the lent tables: the extension, or the fallback. Assumes nothing.
-use mathlib.Core.Bool.{Bool, true, false, not}
-use mathlib.Core.List.{[], ◌∷◌}
-use mathlib.Core.Logic.{inl, inr}
+use mathlib.Core.Bool.{Bool, true, false}
 use mathlib.Core.Option.{some, none}
 use mathlib.Core.Path.{◌≡◌, refl, sym, ap, ◌∙◌}
 use Prim.Native.Nat.{ℕ, ◌+◌}
 use native.Mathlib.Numerals.{add-one}
-use native.Mathlib.Omega.{arith}
-use denote.Enum.Declared.{tag_of}
-use borrow.Author.Tests.{not-true, not-false}
 use lib.Dec.{eqb}
 use Rattle.tables.specs.FileSets.{no_set}
 use Rattle.tables.specs.Records.{Element, FileNumber, FileSet, Version, Model, Log, State, Fixed, name_of, type_of, set_of, list_of}
@@ -34,8 +29,6 @@ use Rattle.insert_range.specs.declared.range.Range.TheVariants.{Places, NoRow, C
 use Rattle.merge_log.specs.declared.refusals.Refusal as program
 use Rattle.merge_log.specs.declared.refusals.Outcome as step
 use Rattle.merge_log.specs.declared.refusals.Outcome.TheVariants.{Done, Conflict, Refused}
-use Rattle.insert_range.specs.contracts.range.Range.{the_type as range-type}
-use Rattle.merge_log.specs.contracts.refusals.Outcome.{the_type as outcome-type}
 use Rattle.imports.proofs.Laws.Imports.{then-done, then-stop}
 
 -- ---- A's set

@@ -1,0 +1,20 @@
+use mathlib.Core.Path.{◌∙◌}
+use Rattle.tables.specs.SetCells.{set_is}
+use Rattle.state_test.specs.StateTest.{fixed_in, state_in}
+use Rattle.pairs.proofs.Laws.Settle.{settle-done, settle-conflict, settle-refused}
+use Rattle.pairs.proofs.settle.settle.Goals as goal
+
+pub extend_pair-requires : goal.extend_pair-requires
+extend_pair-requires c = record { good_model = c.requires.state_over.model_fits.good; good_log = c.requires.state_over.log_fits.good; a_bound = rw c.requires.state_over.model_fits.same c.requires.a_in_bounds; f_lt_file_limit = c.requires.f_lt_file_limit }
+
+pub returns-in-Done : goal.returns-in-Done
+returns-in-Done c =
+    let x = fixed_in c.args.deck.now c.args.schema.now c.args.elements.now in record { log_after = c.extend_pair.ensures.log_after ∙ settle-done x c.args.f.0 c.args.v c.args.p.0 (record { a = c.args.a.0; b = c.args.b.0 }) (set_is c.args.files) c.args.mark (state_in c.args.model.now c.args.log.now) c.args.below c.in-Done.is; keeps_state = c.extend_pair.ensures.keeps_state }
+
+pub returns-in-Conflict : goal.returns-in-Conflict
+returns-in-Conflict c =
+    let x = fixed_in c.args.deck.now c.args.schema.now c.args.elements.now in record { log_after = c.settle_conflict.ensures.log_after ∙ settle-conflict x c.args.f.0 c.args.v c.args.p.0 (record { a = c.args.a.0; b = c.args.b.0 }) (set_is c.args.files) c.args.mark (state_in c.args.model.now c.args.log.now) c.args.below _ c.in-Conflict.is; keeps_state = c.settle_conflict.ensures.keeps_state }
+
+pub returns-in-Refused : goal.returns-in-Refused
+returns-in-Refused c =
+    let x = fixed_in c.args.deck.now c.args.schema.now c.args.elements.now in record { log_after = settle-refused x c.args.f.0 c.args.v c.args.p.0 (record { a = c.args.a.0; b = c.args.b.0 }) (set_is c.args.files) c.args.mark (state_in c.args.model.now c.args.log.now) c.args.below _ c.in-Refused.is; keeps_state = λ n texts s. s }
