@@ -174,7 +174,7 @@ fn pair_version(schema: &[u64], model: &[u64], version: u64, v: u64, a: Element)
 }
 
 // Level with a scratch slice of its own: at the root, and where the plan of a pair has no room in the slice that it was handed.
-#[cycle(merge_apart_merge_element_merge_pair_merge_sub_elements)]
+#[cycle(levels)]
 pub fn merge_apart(
     deck: &[u8],
     schema: &[u64],
@@ -205,7 +205,7 @@ pub fn merge_apart(
 }
 
 // Level: b is merged into a, by its plan: restrictions and imports, then pairs. At depth 0, where no listed element is, refusal 6. The usual answer of the pairs, Done, is tested for, so that it is not copied.
-#[cycle(merge_apart_merge_element_merge_pair_merge_sub_elements)]
+#[cycle(levels)]
 fn merge_element(
     deck: &[u8],
     schema: &[u64],
@@ -270,7 +270,7 @@ fn merge_element(
 }
 
 // Pairs, in order. Levels below have the scratch slice behind the rows of A.
-#[cycle(merge_apart_merge_element_merge_pair_merge_sub_elements)]
+#[cycle(levels)]
 fn merge_sub_elements(
     deck: &[u8],
     schema: &[u64],
@@ -333,7 +333,7 @@ fn merge_sub_elements(
 }
 
 // One pair: its level, and what becomes of it. The usual answer, Done, is tested for before it is copied for `settle`.
-#[cycle(merge_apart_merge_element_merge_pair_merge_sub_elements)]
+#[cycle(levels)]
 fn merge_pair(
     deck: &[u8],
     schema: &[u64],

@@ -1,3 +1,4 @@
 // Level and Pairs on the lent tables.
 #![tactic(auto)]
+
 pub mod level;

@@ -4,7 +4,6 @@ use mathlib.Core.Option.{Option, none, some}
 use mathlib.Core.Path.{◌≡◌, refl, sym, ap, ◌∙◌}
 use Prim.Native.Nat.{ℕ, suc, ◌+◌, ◌-◌, ◌*◌, ◌≤◌, ◌<◌}
 use native.Mathlib.Omega.{arith}
-use denote.Enum.Declared.{tag_of}
 use lib.ListN.{length, get_or, take}
 use lib.Seq.{get_or-take}
 use Rattle.tables.specs.Limits.{item_limit, version_limit}
@@ -33,7 +32,6 @@ use Rattle.pairing.proofs.Laws.Walks.{no_plan}
 use Rattle.merge_log.specs.Answers.{outcome_is}
 use Rattle.merge_log.specs.declared.refusals.Outcome as step
 use Rattle.merge_log.specs.declared.refusals.Outcome.TheVariants.{Done}
-use Rattle.merge_log.specs.contracts.refusals.Outcome.{the_type}
 use Rattle.imports.proofs.Laws.Imports.{then-done, then-stop}
 use Rattle.level.specs.Level.{apply_plan, merge_level, merge_pair, Bare}
 use Rattle.pairs.proofs.Laws.Settle.{settle-done}

@@ -1,10 +1,9 @@
 -- The restrictions and imports of a plan on the lent tables. Assumes nothing.
 use mathlib.Core.Bool.{Bool, true, false}
-use mathlib.Core.List.{List, [], ◌∷◌}
+use mathlib.Core.List.{List, ◌∷◌}
 use mathlib.Core.Path.{◌≡◌, refl, sym, ◌∙◌}
 use Prim.Native.Nat.{ℕ, ◌+◌, ◌-◌, ◌≤◌, ◌<◌}
 use native.Mathlib.Omega.{arith}
-use denote.Enum.Declared.{tag_of}
 use lib.Dec.{eqb}
 use Rattle.tables.specs.FileSets.{no_set}
 use Rattle.tables.specs.Limits.{item_limit}
@@ -25,7 +24,6 @@ use Rattle.pairing.proofs.Laws.Rows.{restricted, not-restricted}
 use Rattle.merge_log.specs.Answers.{outcome_is}
 use Rattle.merge_log.specs.declared.refusals.Outcome as step
 use Rattle.merge_log.specs.declared.refusals.Outcome.TheVariants.{Done}
-use Rattle.merge_log.specs.contracts.refusals.Outcome.{the_type}
 use Rattle.imports.proofs.Laws.Imports.{then-done, then-stop}
 use Rattle.level.specs.Level.{restrict_new, apply_plan}
 use Rattle.pairs.proofs.Laws.Settle.{set-empty}
