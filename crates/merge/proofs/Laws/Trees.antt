@@ -1,10 +1,9 @@
 -- Laws of a file's tree: the search for it, and its merge into the model's root. Assumes nothing.
 use mathlib.Core.Bool.{Bool, true, false}
-use mathlib.Core.List.{List, [], ◌∷◌}
+use mathlib.Core.List.{List}
 use mathlib.Core.Option.{Option}
 use mathlib.Core.Path.{◌≡◌, sym, ◌∙◌}
 use Prim.Native.Nat.{ℕ, suc, ◌≤◌, ◌<◌}
-use denote.Enum.Declared.{tag_of}
 use borrow.Author.Tests.{eq-eqb}
 use lib.Dec.{eqb}
 use lib.ListN.{length, get_or, drop}
@@ -27,7 +26,6 @@ use Rattle.merge_rules.specs.Refusals.{Outcome}
 use Rattle.merge_log.specs.Answers.{outcome_is}
 use Rattle.merge_log.specs.declared.refusals.Outcome as step
 use Rattle.merge_log.specs.declared.refusals.Outcome.TheVariants.{Done}
-use Rattle.merge_log.specs.contracts.refusals.Outcome.{the_type}
 use Rattle.imports.proofs.Laws.Imports.{then-done, then-stop}
 use Rattle.merge.specs.declared.tree.Waiting.{Waiting}
 use Rattle.merge.specs.declared.tree.Waiting.TheVariants.{Root, Missing}
