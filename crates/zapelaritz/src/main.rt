@@ -16,7 +16,7 @@ use streams::parts::print_all;
 
 // The deck, with the calls of a list where there is one. Of a longer deck, one byte more than a deck may have is handed on: it is refused.
 fn run(
-    rt: &(impl Print + Eprint + Alloc),
+    rt: &(impl Print + Eprint),
     name: &str,
     file: &mut impl Read,
     calls: &[u8],
@@ -33,7 +33,7 @@ fn run(
 
 // The deck in the file of this name.
 fn run_file(
-    rt: &(impl Files + Print + Eprint + Alloc),
+    rt: &(impl Files + Print + Eprint),
     name: &str,
     calls: &[u8],
     listed: bool,
@@ -46,7 +46,7 @@ fn run_file(
 
 // The deck in the file of this name, with the calls in an open file.
 fn run_calls(
-    rt: &(impl Files + Print + Eprint + Alloc),
+    rt: &(impl Files + Print + Eprint),
     name: &str,
     list: &str,
     file: &mut impl Read,
@@ -63,7 +63,7 @@ fn run_calls(
     run_file(rt, name, &calls[..n], true)
 }
 
-fn run_list(rt: &(impl Files + Print + Eprint + Alloc), name: &str, list: &str) -> io::Result<()> {
+fn run_list(rt: &(impl Files + Print + Eprint), name: &str, list: &str) -> io::Result<()> {
     match open_read(rt, list.as_bytes()) {
         Ok(mut file) => run_calls(rt, name, list, &mut file),
         Err(error) => fail(rt, list, error),
@@ -101,11 +101,7 @@ fn arg_count(rt: &impl Env) -> usize {
 }
 
 // By the second argument, the deck of this name alone or with a list of calls.
-fn run_named(
-    rt: &(impl Env + Files + Print + Eprint + Alloc),
-    name: &str,
-    count: usize,
-) -> io::Result<()> {
+fn run_named(rt: &(impl Env + Files + Print + Eprint), name: &str, count: usize) -> io::Result<()> {
     if count == 2 {
         return run_file(rt, name, b"", false);
     }
@@ -117,7 +113,7 @@ fn run_named(
 }
 
 // By the arguments.
-fn start(rt: &(impl Env + Files + Input + Print + Eprint + Alloc)) -> io::Result<()> {
+fn start(rt: &(impl Env + Files + Input + Print + Eprint)) -> io::Result<()> {
     let count = arg_count(rt);
     if 3 < count {
         return eprintln!(rt; "usage: zapelaritz [DECK [CALLS]]");
