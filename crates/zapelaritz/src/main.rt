@@ -14,6 +14,11 @@ use streams::files::{fail, open_read};
 use streams::input::{CALLS_LIMIT, read_all};
 use streams::parts::print_all;
 
+// A line on standard error: what it is about, and why.
+fn complain(rt: &impl Eprint, what: &str, why: &str) -> io::Result<()> {
+    eprintln!(rt; "{what}{why}")
+}
+
 // The deck, with the calls of a list where there is one. Of a longer deck, one byte more than a deck may have is handed on: it is refused.
 fn run(
     rt: &(impl Print + Eprint),
@@ -58,7 +63,11 @@ fn run_calls(
     }
     let n = r.count;
     if CALLS_LIMIT < n {
-        return eprintln!(rt; "{list}: longer than the 1048575 bytes of the largest list of calls");
+        return complain(
+            rt,
+            list,
+            ": longer than the 1048575 bytes of the largest list of calls",
+        );
     }
     run_file(rt, name, &calls[..n], true)
 }
@@ -116,7 +125,7 @@ fn run_named(rt: &(impl Env + Files + Print + Eprint), name: &str, count: usize)
 fn start(rt: &(impl Env + Files + Input + Print + Eprint)) -> io::Result<()> {
     let count = arg_count(rt);
     if 3 < count {
-        return eprintln!(rt; "usage: zapelaritz [DECK [CALLS]]");
+        return complain(rt, "usage: ", "zapelaritz [DECK [CALLS]]");
     }
     if count < 2 {
         return run(rt, "standard input", &mut rt.reader(), b"", false);
