@@ -21,7 +21,7 @@ pub fn part(deck: &[u8], calls: &[u8], listed: bool, from: usize, out: &mut [u8]
 }
 
 // Whether another part may follow: this one is full, and is written. A reader that wants no more is for the caller to answer, without a word here.
-fn write_part(rt: &(impl Print + Eprint + Alloc), part: &[u8]) -> io::Result<bool> {
+fn write_part(rt: &(impl Print + Eprint), part: &[u8]) -> io::Result<bool> {
     match rt.write_all(part) {
         Ok(()) => Ok(part.len() == MEGABYTE),
         Err(error) if error.kind() == ErrorKind::BrokenPipe => Err(error),
@@ -34,7 +34,7 @@ fn write_part(rt: &(impl Print + Eprint + Alloc), part: &[u8]) -> io::Result<boo
 
 // The part that begins at this byte.
 fn print_part(
-    rt: &(impl Print + Eprint + Alloc),
+    rt: &(impl Print + Eprint),
     deck: &[u8],
     calls: &[u8],
     listed: bool,
@@ -47,7 +47,7 @@ fn print_part(
 
 // All parts.
 pub fn print_all(
-    rt: &(impl Print + Eprint + Alloc),
+    rt: &(impl Print + Eprint),
     deck: &[u8],
     calls: &[u8],
     listed: bool,

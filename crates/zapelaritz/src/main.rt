@@ -14,9 +14,14 @@ use streams::files::{fail, open_read};
 use streams::input::{CALLS_LIMIT, read_all};
 use streams::parts::print_all;
 
+// A line on standard error: what it is about, and why.
+fn complain(rt: &impl Eprint, what: &str, why: &str) -> io::Result<()> {
+    eprintln!(rt; "{what}{why}")
+}
+
 // The deck, with the calls of a list where there is one. Of a longer deck, one byte more than a deck may have is handed on: it is refused.
 fn run(
-    rt: &(impl Print + Eprint + Alloc),
+    rt: &(impl Print + Eprint),
     name: &str,
     file: &mut impl Read,
     calls: &[u8],
@@ -33,7 +38,7 @@ fn run(
 
 // The deck in the file of this name.
 fn run_file(
-    rt: &(impl Files + Print + Eprint + Alloc),
+    rt: &(impl Files + Print + Eprint),
     name: &str,
     calls: &[u8],
     listed: bool,
@@ -46,7 +51,7 @@ fn run_file(
 
 // The deck in the file of this name, with the calls in an open file.
 fn run_calls(
-    rt: &(impl Files + Print + Eprint + Alloc),
+    rt: &(impl Files + Print + Eprint),
     name: &str,
     list: &str,
     file: &mut impl Read,
@@ -58,12 +63,16 @@ fn run_calls(
     }
     let n = r.count;
     if CALLS_LIMIT < n {
-        return eprintln!(rt; "{list}: longer than the 1048575 bytes of the largest list of calls");
+        return complain(
+            rt,
+            list,
+            ": longer than the 1048575 bytes of the largest list of calls",
+        );
     }
     run_file(rt, name, &calls[..n], true)
 }
 
-fn run_list(rt: &(impl Files + Print + Eprint + Alloc), name: &str, list: &str) -> io::Result<()> {
+fn run_list(rt: &(impl Files + Print + Eprint), name: &str, list: &str) -> io::Result<()> {
     match open_read(rt, list.as_bytes()) {
         Ok(mut file) => run_calls(rt, name, list, &mut file),
         Err(error) => fail(rt, list, error),
@@ -101,11 +110,7 @@ fn arg_count(rt: &impl Env) -> usize {
 }
 
 // By the second argument, the deck of this name alone or with a list of calls.
-fn run_named(
-    rt: &(impl Env + Files + Print + Eprint + Alloc),
-    name: &str,
-    count: usize,
-) -> io::Result<()> {
+fn run_named(rt: &(impl Env + Files + Print + Eprint), name: &str, count: usize) -> io::Result<()> {
     if count == 2 {
         return run_file(rt, name, b"", false);
     }
@@ -117,10 +122,10 @@ fn run_named(
 }
 
 // By the arguments.
-fn start(rt: &(impl Env + Files + Input + Print + Eprint + Alloc)) -> io::Result<()> {
+fn start(rt: &(impl Env + Files + Input + Print + Eprint)) -> io::Result<()> {
     let count = arg_count(rt);
     if 3 < count {
-        return eprintln!(rt; "usage: zapelaritz [DECK [CALLS]]");
+        return complain(rt, "usage: ", "zapelaritz [DECK [CALLS]]");
     }
     if count < 2 {
         return run(rt, "standard input", &mut rt.reader(), b"", false);

@@ -1,5 +1,5 @@
 -- The cells keep their length.
-use Rattle.std.proofs.Common.{◌-◌, ◌≡◌, ◌≤◌, length}
+use Rattle.std.proofs.Common.{◌-◌, ◌≡◌, length}
 use Rattle.scripts.proofs.cells.fill.Given as goal
 
 abbrev pub invariant-loop-i : goal.invariant-loop-i

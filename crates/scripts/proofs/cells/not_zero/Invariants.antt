@@ -1,5 +1,5 @@
 -- At most one for each cell passed.
-use Rattle.std.proofs.Common.{◌-◌, ◌≡◌, ◌≤◌, length}
+use Rattle.std.proofs.Common.{◌-◌, ◌≤◌, length}
 use Rattle.scripts.proofs.cells.not_zero.Given as goal
 
 abbrev pub invariant-loop-i : goal.invariant-loop-i

@@ -1,5 +1,5 @@
 -- The buffer keeps its length.
-use Rattle.std.proofs.Common.{◌-◌, ◌≡◌, ◌≤◌, length}
+use Rattle.std.proofs.Common.{◌-◌, ◌≡◌, length}
 use Rattle.scripts.proofs.cells.show.Given as goal
 
 abbrev pub invariant-loop-i : goal.invariant-loop-i
