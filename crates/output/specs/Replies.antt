@@ -1,7 +1,7 @@
 -- What the answer to a request, and a whole run, leave in the buffer and in the tables. Assumes nothing.
 use Rattle.std.specs.Prelude.{Bool, true, false, List, ◌≡◌, ℕ}
 use Rattle.tables.specs.Records.{Fixed, State}
-use Rattle.state_test.specs.StateTest.{fixed_in, state_in}
+use Rattle.state_test.specs.StateTest.{fixed_in}
 use Rattle.deck.specs.Deck.{lines}
 use Rattle.merge_rules.specs.CallLists.{Request, reply, call_lines, calls_output}
 use Rattle.merge_rules.specs.Program.{merge_lines, output}

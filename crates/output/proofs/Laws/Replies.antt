@@ -1,14 +1,11 @@
 -- What the answer to each request leaves, by what the call answered and what was appended. Assumes nothing.
-use mathlib.Core.List.{List, [], ◌∷◌}
-use mathlib.Core.Logic.{inl, inr}
+use mathlib.Core.List.{List}
 use mathlib.Core.Option.{some}
 use mathlib.Core.Path.{◌≡◌, refl, ap, subst}
 use Prim.Native.Nat.{ℕ}
 use native.Mathlib.Omega.{arith}
-use denote.Enum.Declared.{tag_of}
 use Rattle.tables.specs.LogTable.{log_of, GoodLog}
 use Rattle.tables.specs.ModelTable.{model_of}
-use Rattle.tables.specs.Records.{State}
 use Rattle.state_test.specs.StateTest.{fixed_in, state_in}
 use Rattle.state_test.proofs.Laws.States.{passed-tables}
 use Rattle.merge_rules.specs.Book.{call_merge, call_rollback, call_range}
@@ -28,7 +25,6 @@ use Rattle.requests.specs.Requests.{request_is}
 use Rattle.output.specs.Replies.{Replies}
 use Rattle.requests.specs.declared.requests.Request as program
 use Rattle.requests.specs.declared.requests.Request.TheVariants.{Merge, Rollback, Range, Model, Trees, Log, Bad}
-use Rattle.requests.specs.contracts.requests.Request.{the_type}
 
 module _ {deck schema elements model log : List ℕ} (h : Standing deck schema elements model log) where
   -- the tables stay as they are

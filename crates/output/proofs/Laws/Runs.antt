@@ -7,25 +7,25 @@ use Prim.Native.Nat.{ℕ, suc, ◌+◌, ◌≤◌, ◌<◌}
 use native.Mathlib.Numerals.{add-one}
 use native.Mathlib.Omega.{arith}
 use lib.ListN.{length, get_or, drop, drop_of_length-le}
-use lib.Seq.{drop-cons, drop-length}
+use lib.Seq.{drop-cons}
 use Rattle.tables.specs.Cells.{between}
 use Rattle.tables.specs.ElementsTable.{elements_of, no_tree}
 use Rattle.tables.specs.ModelTable.{model_of}
 use Rattle.tables.specs.Records.{Tree, Fixed, State}
 use Rattle.deck.specs.Answers.{part_at, Next}
 use Rattle.deck.specs.Deck.{Part, parts, lines}
-use Rattle.deck.specs.Load.{Load, loaded, refused_at, load}
+use Rattle.deck.specs.Load.{loaded, refused_at, load}
 use Rattle.deck.proofs.Laws.Parts.{parts-some, between_cons, next-line, last_line}
 use Rattle.load.specs.LoadCall.{Tables, load_result, sizes_fit, load_call}
 use Rattle.load.specs.declared.load.Answer.{Answer}
 use Rattle.load.specs.declared.load.Answer.TheVariants.{Loaded, Refused}
 use Rattle.state_test.specs.StateTest.{fixed_in, state_in}
 use Rattle.merge_rules.specs.Book.{call_merge}
-use Rattle.merge_rules.specs.CallLists.{Request, of_call, read_request, reply, bad_call, call_lines, calls_output_of, calls_output}
-use Rattle.merge_rules.specs.Program.{model_lines, merge_lines, refused_deck, output_of, output}
+use Rattle.merge_rules.specs.CallLists.{Request, of_call, read_request, reply, bad_call, call_lines, calls_output_of}
+use Rattle.merge_rules.specs.Program.{model_lines, merge_lines, refused_deck, output_of}
 use Rattle.merge_rules.specs.Standing.{Standing}
 use Rattle.merge_rules.proofs.Laws.Standing.{loaded-standing, refused-load, output-of, calls-output-of}
-use Rattle.printing.specs.Buffers.{Buffer, appended, Appends, Printed, print_from}
+use Rattle.printing.specs.Buffers.{Buffer, Appends, print_from}
 use Rattle.printing.proofs.Laws.Buffers.{Leaves, begin, turn, rests, finish, full-stays}
 use Rattle.printing.proofs.Laws.Parts.{starts}
 use Rattle.output.specs.Replies.{Replies, shown, Shows, run_lines, run_output}

@@ -1,0 +1,11 @@
+use Rattle.tables.specs.Bytes.{bytes}
+use Rattle.merge_rules.specs.Program.{decimal_of}
+use Rattle.printing.proofs.Laws.Buffers.{then}
+use Rattle.output.proofs.answers.append_asked.Goals as goal
+
+pub returns : goal.returns
+unfolding decimal_of bytes
+returns c =
+    then
+    c.append_head-k.ensures
+    (then c.append_number-l.ensures c.append_number.ensures)

@@ -1,0 +1,9 @@
+use Rattle.tables.specs.Bytes.{bytes}
+use Rattle.merge_rules.specs.Program.{hexadecimal_of, line_of}
+use Rattle.printing.proofs.Laws.Buffers.{then}
+use Rattle.output.proofs.entries.append_old.Goals as goal
+
+pub returns : goal.returns
+unfolding line_of hexadecimal_of bytes
+returns c =
+    rw (← c.bits.ensures) (then c.append_parent-k.ensures c.append_number.ensures)
