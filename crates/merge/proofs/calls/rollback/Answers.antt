@@ -1,10 +1,13 @@
 use mathlib.Core.Bool.{true}
 use mathlib.Core.Path.{◌≡◌}
+use Prim.Native.Nat.{◌≤◌}
 use native.Mathlib.Omega.{arith}
+use lib.ListN.{length}
 use Rattle.state_test.specs.StateTest.{lent_tables_pass}
 use Rattle.state_test.proofs.Laws.Answers.{passed, failed}
 use Rattle.table_test.specs.Fits.{StateOver}
 use Rattle.tables.specs.LogTable.{log_of}
+use Rattle.merge_rules.specs.Log.{is_mark}
 use Rattle.merge.proofs.Laws.Calls.{lent-state, lent-once, rollback-bad, no-mark, mark-low, rolled-back}
 use Rattle.merge.proofs.calls.rollback.Goals as goal
 
@@ -29,7 +32,9 @@ rollback_merge-requires c = let pass2_0 : lent_tables_pass c.args.deck.now c.arg
 
 pub overflow_sub-result : goal.overflow_sub-result
 overflow_sub-result c =
-    omega (arith, c.log_length-n.ensures, mark-low c.args.mark (log_of c.args.log.now) (passed c.is_mark.ensures c.if-not-is_mark.false))
+    let marks_0 : is_mark c.args.mark (log_of c.args.log.now) ≡ true = passed c.is_mark.ensures c.if-not-is_mark.false in
+    let low_0 : c.args.mark ≤ length (log_of c.args.log.now) = mark-low c.args.mark (log_of c.args.log.now) marks_0 in
+    omega (arith, c.log_length-n.ensures, low_0)
 
 pub returns : goal.returns
 returns c = let pass_0 : lent_tables_pass c.args.deck.now c.args.schema.now c.args.elements.now c.args.model.now c.args.log.now ≡ true = passed c.lent_tables_pass.ensures c.if-not-lent_tables_pass.false in
