@@ -1,20 +1,18 @@
 -- What the answers of the code stand for in the rules. Assumes nothing.
 use Rattle.std.specs.Prelude.{true, false, List, [], ◌∷◌, ◌≡◌, ℕ, suc, ◌+◌, ◌≤◌, ◌<◌, eqb, length, get_or, take}
 use Rattle.std.proofs.Math.Option.{Option, none, some}
+use Rattle.std.specs.Prelude as program_option
+use Rattle.std.specs.Prelude.{Some, None}
 use Rattle.tables.specs.Cells.{between}
 use Rattle.tables.specs.Limits.{file_limit, version_limit}
 use Rattle.tables.specs.declared.path.Path.{Path}
 use Rattle.tables.specs.Paths.{parts_of}
-use Rattle.tables.specs.Records.{SchemaPath, modes, characters, mults, any, TypeRow, Group, SubElement, File, Text}
+use Rattle.tables.specs.Records.{SchemaPath, modes, characters, TypeRow, Group, SubElement, File, Text}
 use Rattle.tables.specs.SetCells.{set_is}
-use Rattle.tables.specs.Texts.{text_from}
+use Rattle.tables.specs.declared.text.StoredText.{StoredText}
+use Rattle.tables.specs.Texts.{stored_is, StoredFits}
+use Rattle.tables.specs.SchemaTable.{mult_is}
 use Rattle.deck.specs.Deck.{Part, Line, read_line}
-use Rattle.deck.specs.declared.fields.Num.{Num}
-use Rattle.deck.specs.declared.fields.Num.TheVariants.{Number, Bad as BadNumber}
-use Rattle.deck.specs.declared.fields.PathField.{PathField}
-use Rattle.deck.specs.declared.fields.PathField.TheVariants.{Parts, Bad as BadPath}
-use Rattle.deck.specs.declared.fields.TextField.{TextField}
-use Rattle.deck.specs.declared.fields.TextField.TheVariants.{Text as TextCells, Bad as BadText}
 use Rattle.deck.specs.declared.lines.Fields.{Fields}
 use Rattle.deck.specs.declared.lines.Span.{Span}
 use Rattle.deck.specs.declared.lines.TypeCells.{TypeCells}
@@ -22,11 +20,9 @@ use Rattle.deck.specs.declared.lines.GroupCells.{GroupCells}
 use Rattle.deck.specs.declared.lines.RowCells.{RowCells}
 use Rattle.deck.specs.declared.lines.FileCells.{FileCells}
 use Rattle.deck.specs.declared.lines.Line as program
-use Rattle.deck.specs.declared.lines.Line.TheVariants.{T, G, S, F, M, B, E, C, Bad}
-use Rattle.deck.specs.declared.reader.LineEnd.{LineEnd}
-use Rattle.deck.specs.declared.reader.LineEnd.TheVariants.{At, Missing}
+use Rattle.deck.specs.declared.lines.Line.TheVariants.{T, G, S, F, M, B, E, C}
+use Rattle.deck.specs.declared.lines.TextCells.{TextCells}
 use Rattle.deck.specs.declared.reader.NextLine.{NextLine}
-use Rattle.deck.specs.declared.reader.NextLine.TheVariants.{Whole, Open}
 
 -- ---- places
 
@@ -80,42 +76,42 @@ pub record Splits (deck : List ℕ) (l : List Part) (f : Fields) : Type 0 where
 
 -- ---- fields
 
-unfoldable pub num_is : Num → Option ℕ
-num_is (Number n) = some n
-num_is BadNumber = none
+unfoldable pub num_is : program_option.Option ℕ → Option ℕ
+num_is (Some n) = some n
+num_is None = none
 
-unfoldable pub path_is : PathField → Option SchemaPath
-path_is (Parts p) = some (parts_of p)
-path_is BadPath = none
+unfoldable pub path_is : program_option.Option Path → Option SchemaPath
+path_is (Some p) = some (parts_of p)
+path_is None = none
 
 -- the path has a part
 abbrev pub PathFits : Path → Type 0
 PathFits p = 0 < length (parts_of p)
 
-abbrev pub path_fits : PathField → Type 0
-path_fits (Parts p) = PathFits p
-path_fits BadPath = Unit {0}
+abbrev pub path_fits : program_option.Option Path → Type 0
+path_fits (Some p) = PathFits p
+path_fits None = Unit {0}
 
-pub record PathReads (r : PathField) (o : Option SchemaPath) : Type 0 where
+pub record PathReads (r : program_option.Option Path) (o : Option SchemaPath) : Type 0 where
   pub is : path_is r ≡ o
   pub fits : path_fits r
 
-unfoldable pub text_is : TextField → Option Text
-text_is (TextCells kind value) = some (text_from kind value)
-text_is BadText = none
+unfoldable pub text_is : program_option.Option StoredText → Option Text
+text_is (Some t) = some (stored_is t)
+text_is None = none
 
-abbrev pub text_fits : TextField → Type 0
-text_fits (TextCells kind value) = kind < 4
-text_fits BadText = Unit {0}
+abbrev pub text_fits : program_option.Option StoredText → Type 0
+text_fits (Some t) = StoredFits t
+text_fits None = Unit {0}
 
-pub record TextReads (r : TextField) (o : Option Text) : Type 0 where
+pub record TextReads (r : program_option.Option StoredText) (o : Option Text) : Type 0 where
   pub is : text_is r ≡ o
   pub fits : text_fits r
 
 -- ---- lines
 
 abbrev pub type_is : TypeCells → TypeRow
-type_is c = record { mode = get_or modes c.mode characters; named = eqb c.named 1; split = c.split }
+type_is c = record { mode = get_or modes c.mode characters; named = c.named; split = c.split }
 
 abbrev pub group_is : GroupCells → Group
 group_is c = record { type = c.ty.0; path = parts_of c.path; mode = get_or modes c.mode characters }
@@ -127,42 +123,42 @@ row_is c =
       path = parts_of c.path;
       name = c.name.0;
       child_type = c.child.0;
-      mult = get_or mults c.mult any;
+      mult = mult_is c.mult;
       mask = c.mask;
     }
 
 abbrev pub file_is : FileCells → File
 file_is c = record { file = c.file.0; version = c.version }
 
-unfoldable pub line_is : program.Line → Option Line
-line_is (T c) = some (Line.T c.ty.0 (type_is c))
-line_is (G c) = some (Line.G (group_is c))
-line_is (S c) = some (Line.S (row_is c))
-line_is (F c) = some (Line.F (file_is c))
-line_is M = some Line.M
-line_is (B f) = some (Line.B f.0)
-line_is (E c) = some (Line.E c.depth c.name.0 (set_is c.set))
-line_is (C c) = some (Line.C c.depth (text_from c.kind c.value))
-line_is Bad = none
+unfoldable pub line_is : program_option.Option program.Line → Option Line
+line_is (Some (T c)) = some (Line.T c.ty.0 (type_is c))
+line_is (Some (G c)) = some (Line.G (group_is c))
+line_is (Some (S c)) = some (Line.S (row_is c))
+line_is (Some (F c)) = some (Line.F (file_is c))
+line_is (Some M) = some Line.M
+line_is (Some (B f)) = some (Line.B f.0)
+line_is (Some (E c)) = some (Line.E c.depth c.name.0 (set_is c.set))
+line_is (Some (C c)) = some (Line.C c.depth (stored_is c.text))
+line_is None = none
 
 -- the numbers of a line are those of the rules' cases
-abbrev pub line_fits : program.Line → Type 0
-line_fits (T c) = (c.mode < 5) × (c.named < 2)
-line_fits (G c) = c.mode < 4
-line_fits (S c) = (c.mult < 3) × PathFits c.path
-line_fits (F c) = (c.file.0 < file_limit) × (c.version < version_limit)
-line_fits M = Unit {0}
-line_fits (B f) = f.0 < file_limit
-line_fits (E c) = Unit {0}
-line_fits (C c) = c.kind < 4
-line_fits Bad = Unit {0}
+abbrev pub line_fits : program_option.Option program.Line → Type 0
+line_fits (Some (T c)) = c.mode < 5
+line_fits (Some (G c)) = c.mode < 4
+line_fits (Some (S c)) = PathFits c.path
+line_fits (Some (F c)) = (c.file.0 < file_limit) × (c.version < version_limit)
+line_fits (Some M) = Unit {0}
+line_fits (Some (B f)) = f.0 < file_limit
+line_fits (Some (E c)) = Unit {0}
+line_fits (Some (C c)) = StoredFits c.text
+line_fits None = Unit {0}
 
-pub record LineReads (r : program.Line) (o : Option Line) : Type 0 where
+pub record LineReads (r : program_option.Option program.Line) (o : Option Line) : Type 0 where
   pub is : line_is r ≡ o
   pub fits : line_fits r
 
 -- line is the one from the byte at up to its LF, and behind is the byte behind that
-pub record LineAt (deck : List ℕ) (at : ℕ) (line : program.Line) (behind : ℕ) : Type 0 where
+pub record LineAt (deck : List ℕ) (at : ℕ) (line : program_option.Option program.Line) (behind : ℕ) : Type 0 where
   pub end : ℕ
   pub next : Next deck 10 at (length deck) end
   pub within : end < length deck
@@ -170,11 +166,11 @@ pub record LineAt (deck : List ℕ) (at : ℕ) (line : program.Line) (behind : �
   pub is : behind ≡ end + 1
 
 -- the line from the byte at ends at an LF, or has none
-abbrev pub EndReads : List ℕ → ℕ → LineEnd → Type 0
-EndReads deck at (At end) = Next deck 10 at (length deck) end × (end < length deck)
-EndReads deck at Missing = Next deck 10 at (length deck) (length deck)
+abbrev pub EndReads : List ℕ → ℕ → program_option.Option ℕ → Type 0
+EndReads deck at (Some end) = Next deck 10 at (length deck) end × (end < length deck)
+EndReads deck at None = Next deck 10 at (length deck) (length deck)
 
 -- what stands from the byte at on
-abbrev pub NextReads : List ℕ → ℕ → NextLine → Type 0
-NextReads deck at (Whole line behind) = LineAt deck at line behind
-NextReads deck at Open = Next deck 10 at (length deck) (length deck)
+abbrev pub NextReads : List ℕ → ℕ → program_option.Option NextLine → Type 0
+NextReads deck at (Some n) = LineAt deck at n.line n.behind
+NextReads deck at None = Next deck 10 at (length deck) (length deck)

@@ -4,13 +4,13 @@ ghost use Rattle.tables.specs.Limits.{deck_limit, path_limit};
 ghost use Rattle.deck.specs.Deck.{fields, field, number, letter, path_field, text_fields, by_letter, kinds, read_line, line_t, line_g, line_s, line_f, line_m, line_b, line_e, line_c};
 ghost use Rattle.deck.specs.Answers.{Next, part_at, fields_of, Placed, Splits, SpanOf, num_is, PathReads, TextReads, LineReads};
 
-use crate::fields::{
-    Num, PathField, TextField, WORD_LIMIT, find_byte, number, path_field, text_field, wide,
-};
+use crate::fields::{WORD_LIMIT, find_byte, number, path_field, text_field};
 use tables::file_set::FileSet;
 use tables::limits::{FILE_LIMIT, MASK_LIMIT, NAME_LIMIT, PATH_LIMIT, VERSION_LIMIT};
 use tables::numbers::{FileNumber, Name, TypeNumber};
 use tables::path::Path;
+use tables::schema::Mult;
+use tables::text::StoredText;
 
 // The largest number of a type or depth field.
 const NUMBER_LIMIT: u64 = 65535;
@@ -31,7 +31,7 @@ pub fn line_end(deck: &[u8], at: usize) -> usize
     requires { at ≤ length deck.now }
     ensures { Next deck.now 10 at (length deck.now) result }
 {
-    find_byte(deck, 10, at, deck.len())
+    find_byte(deck, b'\n', at, deck.len())
 }
 
 // The places of a line's fields, as far as 8: no kind of line has more than 7.
@@ -51,7 +51,7 @@ pub fn split(deck: &[u8], start: usize, end: usize) -> Fields
     let mut count = 0;
     let mut at = start;
     while count < 8 {
-        let e = find_byte(deck, 44, at, end);
+        let e = find_byte(deck, b',', at, end);
         starts[count] = at;
         ends[count] = e;
         count += 1;
@@ -94,7 +94,7 @@ pub fn places(f: Fields, i: usize) -> Span
 }
 
 // Field i as a number.
-pub fn number_at(deck: &[u8], f: Fields, i: usize, radix: u64, most: u64) -> Num
+pub fn number_at(deck: &[u8], f: Fields, i: usize, radix: u64, most: u64) -> Option<u64>
     requires { Placed deck.now f × (0 < radix) }
     ensures { num_is result ≡ number radix most (field (fields_of deck.now f) i) }
 {
@@ -105,22 +105,18 @@ pub fn number_at(deck: &[u8], f: Fields, i: usize, radix: u64, most: u64) -> Num
 }
 
 // The one byte of field i.
-fn letter_at(deck: &[u8], f: Fields, i: usize) -> Num
+fn letter_at(deck: &[u8], f: Fields, i: usize) -> Option<u8>
     requires { Placed deck.now f }
     ensures { num_is result ≡ letter (field (fields_of deck.now f) i) }
 {
     let p = places(f, i);
     let a = p.start;
     let e = p.end;
-    if e - a == 1 {
-        Num::Number(wide(deck[a]))
-    } else {
-        Num::Bad
-    }
+    if e - a == 1 { Some(deck[a]) } else { None }
 }
 
 // Field i as a path.
-fn path_at(deck: &[u8], f: Fields, i: usize, most: usize) -> PathField
+fn path_at(deck: &[u8], f: Fields, i: usize, most: usize) -> Option<Path>
     requires { Placed deck.now f × (most ≤ path_limit) }
     ensures { PathReads result (path_field most (field (fields_of deck.now f) i)) }
 {
@@ -131,25 +127,23 @@ fn path_at(deck: &[u8], f: Fields, i: usize, most: usize) -> PathField
 }
 
 // Fields 2 and 3 as a text.
-fn text_at(deck: &[u8], f: Fields) -> TextField
+fn text_at(deck: &[u8], f: Fields) -> Option<StoredText>
     requires { Placed deck.now f × (length deck.now ≤ deck_limit) }
     ensures { TextReads result (text_fields (field (fields_of deck.now f) 2) (field (fields_of deck.now f) 3)) }
 {
-    let Num::Number(kind) = letter_at(deck, f, 2) else {
-        return TextField::Bad;
-    };
+    let kind = letter_at(deck, f, 2)?;
     let p = places(f, 3);
     let a = p.start;
     let e = p.end;
     text_field(deck, kind, a, e)
 }
 
-// A T line: mode and named as their numbers.
+// A T line: mode as its number.
 #[derive(Clone, Copy)]
 pub struct TypeCells {
     pub ty: TypeNumber,
     pub mode: u64,
-    pub named: u64,
+    pub named: bool,
     pub split: u64,
 }
 
@@ -161,14 +155,14 @@ pub struct GroupCells {
     pub mode: u64,
 }
 
-// An S line: mult as its number.
+// An S line.
 #[derive(Clone, Copy)]
 pub struct RowCells {
     pub ty: TypeNumber,
     pub path: Path,
     pub name: Name,
     pub child: TypeNumber,
-    pub mult: u64,
+    pub mult: Mult,
     pub mask: u64,
 }
 
@@ -187,12 +181,11 @@ pub struct ElementCells {
     pub set: FileSet,
 }
 
-// A C line: kind and value as a table holds them.
+// A C line.
 #[derive(Clone, Copy)]
 pub struct TextCells {
     pub depth: u64,
-    pub kind: u64,
-    pub value: u64,
+    pub text: StoredText,
 }
 
 #[derive(Clone, Copy)]
@@ -205,211 +198,166 @@ pub enum Line {
     B(FileNumber),
     E(ElementCells),
     C(TextCells),
-    Bad,
 }
 
 // `T,type,mode,named,split`
-fn line_t(deck: &[u8], f: Fields) -> Line
+fn line_t(deck: &[u8], f: Fields) -> Option<Line>
     requires { Placed deck.now f }
     ensures { LineReads result (line_t (fields_of deck.now f)) }
 {
-    let Num::Number(ty) = number_at(deck, f, 1, 10, NUMBER_LIMIT) else {
-        return Line::Bad;
-    };
-    let Num::Number(mode) = number_at(deck, f, 2, 10, 4) else {
-        return Line::Bad;
-    };
-    let Num::Number(named) = number_at(deck, f, 3, 10, 1) else {
-        return Line::Bad;
-    };
-    let Num::Number(split) = number_at(deck, f, 4, 16, ALL_VERSIONS) else {
-        return Line::Bad;
-    };
+    let ty = number_at(deck, f, 1, 10, NUMBER_LIMIT)?;
+    let mode = number_at(deck, f, 2, 10, 4)?;
+    let named = number_at(deck, f, 3, 10, 1)?;
+    let split = number_at(deck, f, 4, 16, ALL_VERSIONS)?;
     if f.count != 5 {
-        return Line::Bad;
+        return None;
     }
-    Line::T(TypeCells {
+    Some(Line::T(TypeCells {
         ty: TypeNumber(ty as usize),
         mode,
-        named,
+        named: named == 1,
         split,
-    })
+    }))
 }
 
 // `G,type,path,mode`
-fn line_g(deck: &[u8], f: Fields) -> Line
+fn line_g(deck: &[u8], f: Fields) -> Option<Line>
     requires { Placed deck.now f }
     ensures { LineReads result (line_g (fields_of deck.now f)) }
 {
-    let Num::Number(ty) = number_at(deck, f, 1, 10, NUMBER_LIMIT) else {
-        return Line::Bad;
-    };
-    let PathField::Parts(path) = path_at(deck, f, 2, GROUP_PATH_LIMIT) else {
-        return Line::Bad;
-    };
-    let Num::Number(mode) = number_at(deck, f, 3, 10, 3) else {
-        return Line::Bad;
-    };
+    let ty = number_at(deck, f, 1, 10, NUMBER_LIMIT)?;
+    let path = path_at(deck, f, 2, GROUP_PATH_LIMIT)?;
+    let mode = number_at(deck, f, 3, 10, 3)?;
     if f.count != 4 {
-        return Line::Bad;
+        return None;
     }
-    Line::G(GroupCells {
+    Some(Line::G(GroupCells {
         ty: TypeNumber(ty as usize),
         path,
         mode,
-    })
+    }))
 }
 
 // `S,type,path,name,child,mult,mask`
-fn line_s(deck: &[u8], f: Fields) -> Line
+fn line_s(deck: &[u8], f: Fields) -> Option<Line>
     requires { Placed deck.now f }
     ensures { LineReads result (line_s (fields_of deck.now f)) }
 {
-    let Num::Number(ty) = number_at(deck, f, 1, 10, NUMBER_LIMIT) else {
-        return Line::Bad;
-    };
-    let PathField::Parts(path) = path_at(deck, f, 2, PATH_LIMIT) else {
-        return Line::Bad;
-    };
-    let Num::Number(name) = number_at(deck, f, 3, 10, NAME_LIMIT) else {
-        return Line::Bad;
-    };
-    let Num::Number(child) = number_at(deck, f, 4, 10, NUMBER_LIMIT) else {
-        return Line::Bad;
-    };
-    let Num::Number(mult) = number_at(deck, f, 5, 10, 2) else {
-        return Line::Bad;
-    };
-    let Num::Number(mask) = number_at(deck, f, 6, 16, ALL_VERSIONS) else {
-        return Line::Bad;
-    };
+    let ty = number_at(deck, f, 1, 10, NUMBER_LIMIT)?;
+    let path = path_at(deck, f, 2, PATH_LIMIT)?;
+    let name = number_at(deck, f, 3, 10, NAME_LIMIT)?;
+    let child = number_at(deck, f, 4, 10, NUMBER_LIMIT)?;
+    let mult = number_at(deck, f, 5, 10, 2)?;
+    let mask = number_at(deck, f, 6, 16, ALL_VERSIONS)?;
     if f.count != 7 {
-        return Line::Bad;
+        return None;
     }
     if mask == 0 {
-        return Line::Bad;
+        return None;
     }
-    Line::S(RowCells {
+    Some(Line::S(RowCells {
         ty: TypeNumber(ty as usize),
         path,
         name: Name(name),
         child: TypeNumber(child as usize),
-        mult,
+        mult: Mult::from_number(mult),
         mask,
-    })
+    }))
 }
 
 // `F,file,version`
-fn line_f(deck: &[u8], f: Fields) -> Line
+fn line_f(deck: &[u8], f: Fields) -> Option<Line>
     requires { Placed deck.now f }
     ensures { LineReads result (line_f (fields_of deck.now f)) }
 {
-    let Num::Number(file) = number_at(deck, f, 1, 10, LAST_FILE) else {
-        return Line::Bad;
-    };
-    let Num::Number(version) = number_at(deck, f, 2, 10, LAST_VERSION) else {
-        return Line::Bad;
-    };
+    let file = number_at(deck, f, 1, 10, LAST_FILE)?;
+    let version = number_at(deck, f, 2, 10, LAST_VERSION)?;
     if f.count != 3 {
-        return Line::Bad;
+        return None;
     }
-    Line::F(FileCells {
+    Some(Line::F(FileCells {
         file: FileNumber(file),
         version,
-    })
+    }))
 }
 
 // `M`
-fn line_m(f: Fields) -> Line
+fn line_m(f: Fields) -> Option<Line>
     ensures { (deck : List ℕ) → Placed deck f → LineReads result (line_m (fields_of deck f)) }
 {
     if f.count != 1 {
-        return Line::Bad;
+        return None;
     }
-    Line::M
+    Some(Line::M)
 }
 
 // `B,file`
-fn line_b(deck: &[u8], f: Fields) -> Line
+fn line_b(deck: &[u8], f: Fields) -> Option<Line>
     requires { Placed deck.now f }
     ensures { LineReads result (line_b (fields_of deck.now f)) }
 {
-    let Num::Number(file) = number_at(deck, f, 1, 10, LAST_FILE) else {
-        return Line::Bad;
-    };
+    let file = number_at(deck, f, 1, 10, LAST_FILE)?;
     if f.count != 2 {
-        return Line::Bad;
+        return None;
     }
-    Line::B(FileNumber(file))
+    Some(Line::B(FileNumber(file)))
 }
 
 // `E,depth,name,set`
-fn line_e(deck: &[u8], f: Fields) -> Line
+fn line_e(deck: &[u8], f: Fields) -> Option<Line>
     requires { Placed deck.now f }
     ensures { LineReads result (line_e (fields_of deck.now f)) }
 {
-    let Num::Number(depth) = number_at(deck, f, 1, 10, NUMBER_LIMIT) else {
-        return Line::Bad;
-    };
-    let Num::Number(name) = number_at(deck, f, 2, 10, NAME_LIMIT) else {
-        return Line::Bad;
-    };
-    let Num::Number(set) = number_at(deck, f, 3, 16, WORD_LIMIT) else {
-        return Line::Bad;
-    };
+    let depth = number_at(deck, f, 1, 10, NUMBER_LIMIT)?;
+    let name = number_at(deck, f, 2, 10, NAME_LIMIT)?;
+    let set = number_at(deck, f, 3, 16, WORD_LIMIT)?;
     if f.count != 4 {
-        return Line::Bad;
+        return None;
     }
-    Line::E(ElementCells {
+    Some(Line::E(ElementCells {
         depth,
         name: Name(name),
         set: FileSet::from_bits(set),
-    })
+    }))
 }
 
 // `C,depth,kind,value`
-fn line_c(deck: &[u8], f: Fields) -> Line
+fn line_c(deck: &[u8], f: Fields) -> Option<Line>
     requires { Placed deck.now f × (length deck.now ≤ deck_limit) }
     ensures { LineReads result (line_c (fields_of deck.now f)) }
 {
-    let Num::Number(depth) = number_at(deck, f, 1, 10, NUMBER_LIMIT) else {
-        return Line::Bad;
-    };
-    let TextField::Text(kind, value) = text_at(deck, f) else {
-        return Line::Bad;
-    };
+    let depth = number_at(deck, f, 1, 10, NUMBER_LIMIT)?;
+    let text = text_at(deck, f)?;
     if f.count != 4 {
-        return Line::Bad;
+        return None;
     }
-    Line::C(TextCells { depth, kind, value })
+    Some(Line::C(TextCells { depth, text }))
 }
 
 // The line of a kind's letter.
-fn row(deck: &[u8], f: Fields, kind: u64) -> Line
+fn row(deck: &[u8], f: Fields, kind: u8) -> Option<Line>
     requires { Placed deck.now f × (length deck.now ≤ deck_limit) }
     ensures { LineReads result (by_letter kinds kind (fields_of deck.now f)) }
 {
     match kind {
-        84 => line_t(deck, f),
-        71 => line_g(deck, f),
-        83 => line_s(deck, f),
-        70 => line_f(deck, f),
-        77 => line_m(f),
-        66 => line_b(deck, f),
-        69 => line_e(deck, f),
-        67 => line_c(deck, f),
-        _ => Line::Bad,
+        b'T' => line_t(deck, f),
+        b'G' => line_g(deck, f),
+        b'S' => line_s(deck, f),
+        b'F' => line_f(deck, f),
+        b'M' => line_m(f),
+        b'B' => line_b(deck, f),
+        b'E' => line_e(deck, f),
+        b'C' => line_c(deck, f),
+        _ => None,
     }
 }
 
 // The line between two places, read by its fields.
-pub fn read_line(deck: &[u8], start: usize, end: usize) -> Line
+pub fn read_line(deck: &[u8], start: usize, end: usize) -> Option<Line>
     requires { (start ≤ end) × (end ≤ length deck.now) × (length deck.now ≤ deck_limit) }
     ensures { LineReads result (read_line (part_at deck.now start end)) }
 {
     let f = split(deck, start, end);
-    let Num::Number(kind) = letter_at(deck, f, 0) else {
-        return Line::Bad;
-    };
+    let kind = letter_at(deck, f, 0)?;
     row(deck, f, kind)
 }

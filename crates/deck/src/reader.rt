@@ -11,30 +11,23 @@ pub struct LineReader<'a> {
     pub at: usize,
 }
 
-// The place of a line's LF; bytes without LF, the last ones.
+// A line, none where its form is wrong, and the byte behind its LF.
 #[derive(Clone, Copy)]
-pub enum LineEnd {
-    At(usize),
-    Missing,
+pub struct NextLine {
+    pub line: Option<Line>,
+    pub behind: usize,
 }
 
-// A line with the byte behind its LF; bytes without LF, the last ones.
-#[derive(Clone, Copy)]
-pub enum NextLine {
-    Whole(Line, usize),
-    Open,
-}
-
-// Where the line that begins at this byte ends.
-fn end_at(deck: &[u8], at: usize) -> LineEnd
+// The LF of the line that begins at this byte; none for bytes without LF, the last ones.
+fn end_at(deck: &[u8], at: usize) -> Option<usize>
     requires { at ≤ length deck.now }
     ensures { EndReads deck.now at result }
 {
     let end = line_end(deck, at);
     if deck.len() <= end {
-        return LineEnd::Missing;
+        return None;
     }
-    LineEnd::At(end)
+    Some(end)
 }
 
 fn line_reader<'a>(deck: &'a [u8], at: usize) -> LineReader<'a>
@@ -43,8 +36,8 @@ fn line_reader<'a>(deck: &'a [u8], at: usize) -> LineReader<'a>
     LineReader { deck, at }
 }
 
-// No line by the reader itself: what it gives is proved by hand, and a small value costs far less.
-fn next_end<'a>(r: LineReader<'a>) -> LineEnd
+// No line by the reader itself, a small value: a larger one costs far more to prove.
+fn next_end<'a>(r: LineReader<'a>) -> Option<usize>
     requires { r.at ≤ length r.deck.now }
     ensures { EndReads r.entry.deck.now r.entry.at result }
 {
@@ -52,21 +45,22 @@ fn next_end<'a>(r: LineReader<'a>) -> LineEnd
 }
 
 // A reader at this byte, and where its line ends.
-fn end_from(deck: &[u8], at: usize) -> LineEnd
+fn end_from(deck: &[u8], at: usize) -> Option<usize>
     requires { at ≤ length deck.now }
     ensures { EndReads deck.now at result }
 {
     next_end(line_reader(deck, at))
 }
 
-// The line that begins at this byte.
-pub fn line_from(deck: &[u8], at: usize) -> NextLine
+// The line that begins at this byte; none for bytes without LF, the last ones.
+pub fn line_from(deck: &[u8], at: usize) -> Option<NextLine>
     requires { (length deck.now ≤ deck_limit) × (at ≤ length deck.now) }
     ensures { NextReads deck.now at result }
 {
-    let LineEnd::At(end) = end_from(deck, at) else {
-        return NextLine::Open;
-    };
+    let end = end_from(deck, at)?;
     let behind = end + 1;
-    NextLine::Whole(read_line(deck, at, end), behind)
+    Some(NextLine {
+        line: read_line(deck, at, end),
+        behind,
+    })
 }

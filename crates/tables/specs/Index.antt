@@ -1,6 +1,6 @@
 -- An index of rows: 512 heads, one for each bucket, and 512 links, one for each row. A head is the latest row of its bucket, a link the latest
 -- above its row of the same bucket; both as place + 1, 0 for none. Assumes nothing.
-use Rattle.std.specs.Prelude.{true, false, List, [], ◌∷◌, ℕ, zero, suc, ◌+◌, ◌*◌, ◌%◌, eqb, get_or, set, replicate}
+use Rattle.std.specs.Prelude.{true, false, List, [], ◌∷◌, ℕ, zero, suc, ◌+◌, ◌*◌, ◌%◌, eqb, get_or, set, replicate, Option, Some, None}
 use Rattle.tables.specs.Records.{SchemaPath}
 
 abbrev pub buckets : ℕ
@@ -27,6 +27,11 @@ path_bucket k (a ∷ p) = path_bucket (bucket k (suc a)) p
 unfoldable pub latest : (ℕ → ℕ) → ℕ → ℕ → ℕ
 latest key b zero = 0
 latest key b (suc n) = elim (eqb (key n) b) [ true ↦ suc n | false ↦ latest key b n ]
+
+-- a place as heads and links have it, none as 0
+abbrev pub place_number : Option ℕ → ℕ
+place_number None = 0
+place_number (Some i) = suc i
 
 -- row n of bucket b put into the index at this place: its link is the head so far, and the head is row n
 abbrev pub linked_at : ℕ → List ℕ → ℕ → ℕ → List ℕ

@@ -7,8 +7,9 @@ use Rattle.tables.specs.Limits.{element_limit, item_limit}
 use Rattle.tables.specs.Lists.{insert_run, remove_run}
 use Rattle.tables.specs.Records.{Item, child, text, Model, content_items, list_of}
 use Rattle.tables.specs.SetCells.{set_width, set_cells, cells_set}
-use Rattle.tables.specs.declared.model.Parent.{Parent}
-use Rattle.tables.specs.declared.model.Parent.TheVariants.{Of, Missing}
+use Rattle.std.specs.Prelude.{Some, None}
+use Rattle.std.specs.Prelude as program_option
+use Rattle.tables.specs.declared.numbers.Element as program_element
 use Rattle.tables.specs.declared.model.Item as program
 use Rattle.tables.specs.declared.model.Item.TheVariants.{Child, Text}
 
@@ -31,9 +32,9 @@ model_size = sets_at + element_limit * set_width
 
 -- ---- the program's enums as the records have them
 
-abbrev pub parent_is : Parent → Option ℕ
-parent_is (Of e) = some e.0
-parent_is Missing = none
+abbrev pub parent_is : program_option.Option program_element.Element → Option ℕ
+parent_is (Some e) = some e.0
+parent_is None = none
 
 abbrev pub item_is : program.Item → Item
 item_is (Child e) = child e.0

@@ -1,8 +1,8 @@
 -- Paths of document 01, "Deck and schema": their order, and which begins which. Assumes nothing.
 use Rattle.std.specs.Prelude.{Bool, true, false, not, ◌&&◌, List, [], ◌∷◌, eqb}
 use Prim.Native.Nat.{ℕ, zero, suc, compare, Ordering}
-use Rattle.tables.specs.declared.path.Order.{Order}
-use Rattle.tables.specs.declared.path.Order.TheVariants.{Less, Equal, Greater}
+use Rattle.std.specs.declared.cmp.Ordering as program
+use Rattle.std.specs.declared.cmp.Ordering.TheVariants.{Less, Equal, Greater}
 use Rattle.tables.specs.declared.path.Path.{Path}
 use Rattle.tables.specs.Records.{SchemaPath}
 
@@ -48,7 +48,7 @@ cells_of p = p.0 ∷ p.1 ∷ p.2 ∷ p.3 ∷ []
 abbrev pub parts_of : Path → SchemaPath
 parts_of p = front (cells_of p)
 
-unfoldable pub order_of : Ordering → Order
+unfoldable pub order_of : Ordering → program.Ordering
 order_of Ordering.lt = Less
 order_of Ordering.eq = Equal
 order_of Ordering.gt = Greater

@@ -6,6 +6,8 @@ use Rattle.tables.specs.Cells.{cells, rows_of, Each}
 use Rattle.tables.specs.Index.{bucket, path_bucket, index_size, index_cells}
 use Rattle.tables.specs.Limits.{type_limit, group_limit, row_limit, file_limit, path_limit}
 use Rattle.tables.specs.Paths.{front, path_cells}
+use Rattle.tables.specs.declared.schema.Mult as program_mult
+use Rattle.tables.specs.declared.schema.Mult.TheVariants.{AtMostOne, One, Any}
 use Rattle.tables.specs.Records.{SchemaPath, Mode, sequence, choice, bag, mixed, characters, modes, Mult, at_most_one, one, any, mults, TypeRow, Group, SubElement, File, Schema}
 use Rattle.tables.specs.declared.index.Index.{Index}
 use Rattle.tables.specs.declared.index.Index.TheVariants.{Groups, Names, Paths}
@@ -78,6 +80,12 @@ unfoldable pub mult_number : Mult → ℕ
 mult_number at_most_one = 0
 mult_number one = 1
 mult_number any = 2
+
+-- the program's mults as the records have them
+abbrev pub mult_is : program_mult.Mult → Mult
+mult_is AtMostOne = at_most_one
+mult_is One = one
+mult_is Any = any
 
 abbrev pub mult_from : ℕ → Mult
 mult_from n = get_or mults n any

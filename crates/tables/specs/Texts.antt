@@ -1,10 +1,12 @@
 -- Texts of document 01, "Pairing": when two are equal. Assumes nothing.
-use Rattle.std.specs.Prelude.{Bool, false, ◌&&◌, ◌||◌, cond, List, ℕ, ◌+◌, ◌*◌, ◌/◌, ◌%◌, ◌≤◌, eqb, Float, length, take, drop}
+use Rattle.std.specs.Prelude.{Bool, false, ◌&&◌, ◌||◌, cond, List, ℕ, ◌+◌, ◌*◌, ◌/◌, ◌%◌, ◌^◌, ◌≤◌, ◌<◌, eqb, Float, length, take, drop}
 use Rattle.std.specs.Float.{binary64}
 use Rattle.std.specs.Float.Ieee.{of_bits, is_nan, eq}
 use Rattle.tables.specs.declared.text.Place as code
 use Rattle.tables.specs.declared.text.Text as code_text
 use Rattle.tables.specs.declared.text.Text.TheVariants.{Number, Str, Whole, Float as FloatValue}
+use Rattle.tables.specs.declared.text.StoredText as stored
+use Rattle.tables.specs.declared.text.StoredText.TheVariants.{Number as StoredNumber, Str as StoredStr, Whole as StoredWhole, Float as StoredFloat}
 use Rattle.tables.specs.Limits.{string_limit}
 use Rattle.tables.specs.Lists.{same_list}
 use Rattle.tables.specs.Records.{Place, Text, enum_number, string, whole_number, float}
@@ -69,6 +71,20 @@ value_of (enum_number n) = Number n
 value_of (string p) = Str (record { start = p.start; size = p.size })
 value_of (whole_number n) = Whole n
 value_of (float b) = FloatValue (of_bits binary64 b)
+
+-- a text as the tables' reader hands it on: a float by its bits
+abbrev pub stored_is : stored.StoredText → Text
+stored_is (StoredNumber n) = enum_number n
+stored_is (StoredStr p) = string (place_of p)
+stored_is (StoredWhole n) = whole_number n
+stored_is (StoredFloat b) = float b
+
+-- place and length of a string fit one cell
+abbrev pub StoredFits : stored.StoredText → Type 0
+StoredFits (StoredNumber n) = Unit {0}
+StoredFits (StoredStr p) = (p.size < string_limit) × (p.start * string_limit + p.size < 2 ^ 64)
+StoredFits (StoredWhole n) = Unit {0}
+StoredFits (StoredFloat b) = Unit {0}
 
 -- the string stands in the deck
 abbrev pub place_in : List ℕ → code.Place → Type 0

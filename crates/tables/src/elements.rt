@@ -4,12 +4,13 @@
 ghost use Rattle.std.specs.Prelude.{◌≡◌, [], ◌∷◌, ◌<◌, length, get_or};
 ghost use Rattle.tables.specs.Limits.{element_limit, item_limit, file_limit};
 ghost use Rattle.tables.specs.Records.{enum_number, add_element, add_text, add_tree};
-ghost use Rattle.tables.specs.Texts.{text_kind, text_value, text_from};
+ghost use Rattle.tables.specs.Texts.{stored_is, StoredFits};
 ghost use Rattle.tables.specs.ElementsTable.{elements_of, GoodElements, HoldsElements, text_cells, tree_cells, no_tree, element_width, text_width, tree_width};
 
 use crate::cells::{put2, put3};
 use crate::limits::{ELEMENT_LIMIT, FILE_LIMIT, ITEM_LIMIT};
 use crate::numbers::{Element, FileNumber, Name, TypeNumber};
+use crate::text::StoredText;
 
 // The cells of one row of each area.
 pub const ELEMENT_WIDTH: usize = 3;
@@ -92,20 +93,12 @@ fn text_cell(elements: &[u64], t: usize, field: usize) -> u64
     elements[TEXTS_AT + (t * TEXT_WIDTH + field)]
 }
 
-pub fn text_kind(elements: &[u64], t: usize) -> u64
+pub fn text_at(elements: &[u64], t: usize) -> StoredText
     requires good_elements { GoodElements elements.now }
     requires t_in_bounds { t < length (elements_of elements.now).texts }
-    ensures { result ≡ text_kind (get_or (elements_of elements.now).texts t (enum_number 0)) }
+    ensures { stored_is result ≡ get_or (elements_of elements.now).texts t (enum_number 0) }
 {
-    text_cell(elements, t, 0)
-}
-
-pub fn text_value(elements: &[u64], t: usize) -> u64
-    requires good_elements { GoodElements elements.now }
-    requires t_in_bounds { t < length (elements_of elements.now).texts }
-    ensures { result ≡ text_value (get_or (elements_of elements.now).texts t (enum_number 0)) }
-{
-    text_cell(elements, t, 1)
+    StoredText::from_cells(text_cell(elements, t, 0), text_cell(elements, t, 1))
 }
 
 // One cell of tree t: file or root.
@@ -150,14 +143,14 @@ pub fn add_element_row(elements: &mut [u64], n: Name, t: TypeNumber, depth: u64)
     elements[0] = m as u64 + 1;
 }
 
-pub fn add_text(elements: &mut [u64], kind: u64, value: u64)
+pub fn add_text(elements: &mut [u64], t: StoredText)
     requires good_elements { GoodElements elements.old }
     requires elements_len_bound { length (elements_of elements.old).texts < item_limit }
-    requires kind_bound { kind < 4 }
-    ensures { HoldsElements elements.new (add_text (elements_of elements.old) (text_from kind value)) }
+    requires stored_fits { StoredFits t }
+    ensures { HoldsElements elements.new (add_text (elements_of elements.old) (stored_is t)) }
 {
     let m = text_count(elements);
-    put2(elements, TEXTS_AT + m * TEXT_WIDTH, kind, value);
+    put2(elements, TEXTS_AT + m * TEXT_WIDTH, t.kind(), t.value());
     elements[1] = m as u64 + 1;
 }
 

@@ -1,7 +1,7 @@
 // The indexes of the schema table: for each bucket of keys its latest row, and for each row the latest above it of the same bucket.
 
 ghost use Rattle.std.specs.Prelude.{◌≡◌, ◌+◌, ◌≤◌, ◌<◌, length};
-ghost use Rattle.tables.specs.Index.{buckets, bucket, path_bucket, latest, linked_at, index_size};
+ghost use Rattle.tables.specs.Index.{buckets, bucket, path_bucket, place_number, latest, linked_at, index_size};
 ghost use Rattle.tables.specs.Paths.{parts_of};
 ghost use Rattle.tables.specs.SchemaTable.{schema_size, schema_of, GoodSchema, index_at, places_in, key_in};
 
@@ -47,14 +47,12 @@ pub fn path_bucket(t: usize, p: Path) -> usize
     ensures upper_bound { result < buckets }
 {
     let mut k = t;
-    let mut i = 0;
-    while i < PATH_LIMIT {
+    for i in 0..PATH_LIMIT {
         let x = p.part(i) as usize;
         if x == 0 {
             return k % BUCKETS;
         }
         k = bucket(k, x);
-        i += 1;
     }
     k % BUCKETS
 }
@@ -72,22 +70,32 @@ pub fn link(cells: &mut [u64], at: usize, n: usize, b: usize)
     cells[head] = n as u64 + 1;
 }
 
-// The latest row of the bucket, as its place + 1.
-pub fn latest(schema: &[u64], x: Index, b: usize) -> usize
-    requires good_schema { GoodSchema schema.now }
-    requires b_lt_buckets { b < buckets }
-    ensures { result ≡ latest (key_in (schema_of schema.now) x) b (places_in (schema_of schema.now) x) }
+// The place in a head or a link, which holds it as place + 1.
+fn linked_place(c: u64) -> Option<usize>
+    ensures { place_number result ≡ c }
 {
-    let at = x.at();
-    schema[at + b] as usize
+    if c == 0 {
+        return None;
+    }
+    Some((c - 1) as usize)
 }
 
-// The latest row above row i of the same bucket, as its place + 1.
-pub fn latest_above(schema: &[u64], x: Index, i: usize) -> usize
+// The latest row of the bucket.
+pub fn latest(schema: &[u64], x: Index, b: usize) -> Option<usize>
     requires good_schema { GoodSchema schema.now }
-    requires i_bound { i < places_in (schema_of schema.now) x }
-    ensures { result ≡ latest (key_in (schema_of schema.now) x) (key_in (schema_of schema.now) x i) i }
+    requires b_lt_buckets { b < buckets }
+    ensures { place_number result ≡ latest (key_in (schema_of schema.now) x) b (places_in (schema_of schema.now) x) }
 {
     let at = x.at();
-    schema[at + (BUCKETS + i)] as usize
+    linked_place(schema[at + b])
+}
+
+// The latest row above row i of the same bucket.
+pub fn latest_above(schema: &[u64], x: Index, i: usize) -> Option<usize>
+    requires good_schema { GoodSchema schema.now }
+    requires i_bound { i < places_in (schema_of schema.now) x }
+    ensures { place_number result ≡ latest (key_in (schema_of schema.now) x) (key_in (schema_of schema.now) x i) i }
+{
+    let at = x.at();
+    linked_place(schema[at + (BUCKETS + i)])
 }

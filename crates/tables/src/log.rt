@@ -12,7 +12,6 @@ use crate::cells::put2;
 use crate::file_set::{FileSet, SET_WIDTH, read_set, store_set};
 use crate::limits::LOG_LIMIT;
 use crate::model;
-use crate::model::Parent;
 use crate::numbers::{Element, FileNumber};
 
 // Where the old set begins in an entry, the cells of an entry, where the entries begin, and the table's size.
@@ -27,7 +26,7 @@ pub const LOG_SIZE: usize = ENTRIES_AT + LOG_LIMIT * ENTRY_WIDTH;
 #[derive(Clone, Copy)]
 pub enum Entry {
     // The element, its new parent, its old parent and set.
-    Import(Element, Element, Parent, FileSet),
+    Import(Element, Element, Option<Element>, FileSet),
     // The element and its old set.
     Restriction(Element, FileSet),
     // The element and the file.

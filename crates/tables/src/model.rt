@@ -11,12 +11,6 @@ use crate::file_set::{FileSet, SET_WIDTH, read_set, store_set};
 use crate::limits::{ELEMENT_LIMIT, ITEM_LIMIT};
 use crate::numbers::Element;
 
-#[derive(Clone, Copy)]
-pub enum Parent {
-    Of(Element),
-    Missing,
-}
-
 // An entry of a content list: an element, or a text by its number.
 #[derive(Clone, Copy)]
 pub enum Item {
@@ -40,25 +34,22 @@ pub const TEXT_CELLS_AT: u64 = ELEMENT_LIMIT as u64;
 
 // One cell as what it says, and back.
 
-pub fn cell_parent(c: u64) -> Parent
+pub fn cell_parent(c: u64) -> Option<Element>
     ensures { parent_is result ≡ cell_parent c }
 {
     if c == 0 {
-        return Parent::Missing;
+        return None;
     }
-    Parent::Of(Element((c - 1) as usize))
+    Some(Element((c - 1) as usize))
 }
 
-pub fn parent_cell(p: Parent) -> u64
+pub fn parent_cell(p: Option<Element>) -> u64
     requires { ParentBelow element_limit (parent_is p) }
     ensures { result ≡ parent_cell (parent_is p) }
 {
     match p {
-        Parent::Of(e) => {
-            let i = e.0;
-            i as u64 + 1
-        }
-        Parent::Missing => 0,
+        Some(e) => e.0 as u64 + 1,
+        None => 0,
     }
 }
 
@@ -76,10 +67,7 @@ fn item_cell(a: Item) -> u64
     ensures { result ≡ item_cell (item_is a) }
 {
     match a {
-        Item::Child(e) => {
-            let i = e.0;
-            i as u64
-        }
+        Item::Child(e) => e.0 as u64,
         Item::Text(t) => TEXT_CELLS_AT + t as u64,
     }
 }
@@ -91,9 +79,7 @@ fn move_up(s: &mut [u64], k: usize, v: u64)
     requires { k ≤ length s.old }
     ensures { s.new ≡ shift_in s.old 0 k v }
 {
-    let mut j = s.len() - k;
-    while 0 < j {
-        j -= 1;
+    for j in (0..s.len() - k).rev() {
         s[j + k] = s[j];
     }
     fill(&mut s[..k], v);
@@ -125,10 +111,8 @@ fn move_down(s: &mut [u64], k: usize)
     ensures { s.new ≡ shift_out s.old 0 k }
 {
     let n = s.len() - k;
-    let mut j: usize = 0;
-    while j < n {
+    for j in 0..n {
         s[j] = s[j + k];
-        j += 1;
     }
     clear(&mut s[n..]);
 }
@@ -159,10 +143,8 @@ fn raise_from(s: &mut [u64], i: usize, k: u64)
     requires k_le_item_limit { k ≤ item_limit }
     ensures { s.new ≡ on_from (λ (x : ℕ). x + k) s.old i }
 {
-    let mut j = i;
-    while j < s.len() {
-        s[j] = s[j] + k;
-        j += 1;
+    for j in i..s.len() {
+        s[j] += k;
     }
 }
 
@@ -171,10 +153,8 @@ fn lower_from(s: &mut [u64], i: usize, k: u64)
     requires { (j : ℕ) → i ≤ j → j < length s.old → k ≤ get_or s.old j 0 }
     ensures { s.new ≡ on_from (λ (x : ℕ). x - k) s.old i }
 {
-    let mut j = i;
-    while j < s.len() {
-        s[j] = s[j] - k;
-        j += 1;
+    for j in i..s.len() {
+        s[j] -= k;
     }
 }
 
@@ -182,10 +162,8 @@ fn lower_from(s: &mut [u64], i: usize, k: u64)
 fn fill(table: &mut [u64], v: u64)
     ensures { table.new ≡ replicate (length table.old) v }
 {
-    let mut j = 0;
-    while j < table.len() {
+    for j in 0..table.len() {
         table[j] = v;
-        j += 1;
     }
 }
 
@@ -205,7 +183,7 @@ pub fn count(model: &[u64]) -> usize
     model[0] as usize
 }
 
-pub fn parent_of(model: &[u64], e: Element) -> Parent
+pub fn parent_of(model: &[u64], e: Element) -> Option<Element>
     requires good_model { GoodModel model.now }
     requires e_bound { e.0 < count_of (model_of model.now) }
     ensures { parent_is result ≡ parent_of (model_of model.now) e.0 }
@@ -263,7 +241,7 @@ pub fn item_at(model: &[u64], e: Element, i: usize) -> Item
 
 // Stores.
 
-pub fn set_parent(model: &mut [u64], e: Element, p: Parent)
+pub fn set_parent(model: &mut [u64], e: Element, p: Option<Element>)
     requires good_model { GoodModel model.old }
     requires e_bound { e.0 < count_of (model_of model.old) }
     requires parent_below { ParentBelow (count_of (model_of model.old)) (parent_is p) }
@@ -344,7 +322,7 @@ pub fn remove_items(model: &mut [u64], e: Element, i: usize, k: usize)
 }
 
 // One more element, with an empty list.
-pub fn add_element(model: &mut [u64], p: Parent, s: FileSet)
+pub fn add_element(model: &mut [u64], p: Option<Element>, s: FileSet)
     requires good_model { GoodModel model.old }
     requires model_bound { count_of (model_of model.old) < element_limit }
     requires parent_below { ParentBelow (count_of (model_of model.old)) (parent_is p) }

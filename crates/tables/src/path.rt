@@ -5,16 +5,10 @@ ghost use mathlib.Core.List.{drop_last};
 ghost use Rattle.tables.specs.Paths.{path_order, same_path, shared_beginning, cells_of, parts_of, order_of, shares_part};
 
 use crate::limits::PATH_LIMIT;
+use std::cmp::Ordering;
 
 #[derive(Clone, Copy)]
 pub struct Path(pub u64, pub u64, pub u64, pub u64);
-
-#[derive(Clone, Copy)]
-pub enum Order {
-    Less,
-    Equal,
-    Greater,
-}
 
 impl Path {
     // Part i as it is held, 0 where there is none.
@@ -31,36 +25,29 @@ impl Path {
     }
 
     // Part by part.
-    pub fn order(self, q: Path) -> Order
+    pub fn order(self, q: Path) -> Ordering
         ensures { result ≡ order_of (path_order (parts_of self) (parts_of q)) }
     {
-        let mut i = 0;
-        while i < PATH_LIMIT {
+        for i in 0..PATH_LIMIT {
             let x = self.part(i);
             let y = q.part(i);
             if x < y {
-                return Order::Less;
+                return Ordering::Less;
             }
             if y < x {
-                return Order::Greater;
+                return Ordering::Greater;
             }
             if x == 0 {
-                return Order::Equal;
+                return Ordering::Equal;
             }
-            i += 1;
         }
-        Order::Equal
+        Ordering::Equal
     }
 
     pub fn same(self, q: Path) -> bool
         ensures { result ≡ same_path (parts_of self) (parts_of q) }
     {
-        let o = self.order(q);
-        match o {
-            Order::Less => false,
-            Order::Equal => true,
-            Order::Greater => false,
-        }
+        self.order(q).is_eq()
     }
 
     // The longest beginning that both share, last parts not counted.

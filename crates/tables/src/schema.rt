@@ -5,14 +5,40 @@
 ghost use Rattle.std.specs.Prelude.{◌≡◌, ◌<◌, length, get_or};
 ghost use Rattle.tables.specs.Limits.{type_limit, group_limit, row_limit, file_limit, path_limit};
 ghost use Rattle.tables.specs.Paths.{cells_of, parts_of, path_cells};
-ghost use Rattle.tables.specs.Records.{type_row, modes, mults, add_type, add_group, add_sub_element, add_file};
-ghost use Rattle.tables.specs.SchemaTable.{schema_of, GoodSchema, HoldsSchema, type_cells, group_cells, sub_element_cells, file_cells, no_group, no_sub_element, no_file, mode_number, mode_from, mult_number, mult_from, bool_number, type_width, group_width, row_width, file_width};
+ghost use Rattle.tables.specs.Records.{type_row, modes, add_type, add_group, add_sub_element, add_file};
+ghost use Rattle.tables.specs.SchemaTable.{schema_of, GoodSchema, HoldsSchema, type_cells, group_cells, sub_element_cells, file_cells, no_group, no_sub_element, no_file, mode_number, mode_from, mult_is, mult_number, mult_from, bool_number, type_width, group_width, row_width, file_width};
 
 use crate::cells::{put2, put3, put6, put9};
 use crate::index::{INDEX_SIZE, bucket, link, path_bucket};
 use crate::limits::{FILE_LIMIT, GROUP_LIMIT, ROW_LIMIT, TYPE_LIMIT};
 use crate::numbers::{FileNumber, Name, TypeNumber};
 use crate::path::Path;
+
+// How often an element may stand in a list. The cells and the deck have these as numbers, in this order.
+#[derive(Clone, Copy, PartialEq, Eq)]
+pub enum Mult {
+    AtMostOne,
+    One,
+    Any,
+}
+
+impl Mult {
+    pub fn from_number(n: u64) -> Mult
+        ensures { mult_is result ≡ mult_from n }
+    {
+        match n {
+            0 => Mult::AtMostOne,
+            1 => Mult::One,
+            _ => Mult::Any,
+        }
+    }
+
+    fn number(self) -> u64
+        ensures { result ≡ mult_number (mult_is self) }
+    {
+        self as u64
+    }
+}
 
 // The cells of one row of each area.
 pub const TYPE_WIDTH: usize = 3;
@@ -188,12 +214,12 @@ pub fn row_child(schema: &[u64], i: usize) -> TypeNumber
     TypeNumber(row_cell(schema, i, 6) as usize)
 }
 
-pub fn row_mult(schema: &[u64], i: usize) -> u64
+pub fn row_mult(schema: &[u64], i: usize) -> Mult
     requires good_schema { GoodSchema schema.now }
     requires i_in_bounds { i < length (schema_of schema.now).sub_elements }
-    ensures { result ≡ mult_number (get_or (schema_of schema.now).sub_elements i no_sub_element).mult }
+    ensures { mult_is result ≡ (get_or (schema_of schema.now).sub_elements i no_sub_element).mult }
 {
-    row_cell(schema, i, 7)
+    Mult::from_number(row_cell(schema, i, 7))
 }
 
 pub fn row_mask(schema: &[u64], i: usize) -> u64
@@ -249,12 +275,6 @@ fn stored_path(p: Path) -> Path
     p
 }
 
-fn bool_cell(b: bool) -> u64
-    ensures { result ≡ bool_number b }
-{
-    if b { 1 } else { 0 }
-}
-
 pub fn add_type(schema: &mut [u64], mode: u64, named: bool, split: u64)
     requires good_schema { GoodSchema schema.old }
     requires schema_len_bound { length (schema_of schema.old).types < type_limit }
@@ -262,8 +282,7 @@ pub fn add_type(schema: &mut [u64], mode: u64, named: bool, split: u64)
     ensures { HoldsSchema schema.new (add_type (schema_of schema.old) (record { mode = mode_from mode; named = named; split = split })) }
 {
     let m = type_count(schema);
-    let n = bool_cell(named);
-    put3(schema, TYPES_AT + m * TYPE_WIDTH, mode, n, split);
+    put3(schema, TYPES_AT + m * TYPE_WIDTH, mode, named as u64, split);
     schema[0] = m as u64 + 1;
 }
 
@@ -295,13 +314,12 @@ pub fn add_row(
     p: Path,
     n: Name,
     child: TypeNumber,
-    mult: u64,
+    mult: Mult,
     mask: u64,
 )
     requires good_schema { GoodSchema schema.old }
     requires schema_len_bound { length (schema_of schema.old).sub_elements < row_limit }
-    requires mult_in_bounds { mult < length mults }
-    ensures { HoldsSchema schema.new (add_sub_element (schema_of schema.old) (record { type = t.0; path = parts_of p; name = n.0; child_type = child.0; mult = mult_from mult; mask = mask })) }
+    ensures { HoldsSchema schema.new (add_sub_element (schema_of schema.old) (record { type = t.0; path = parts_of p; name = n.0; child_type = child.0; mult = mult_is mult; mask = mask })) }
 {
     let m = row_count(schema);
     let q = stored_path(p);
@@ -315,7 +333,7 @@ pub fn add_row(
         q.3,
         n.0,
         child.0 as u64,
-        mult,
+        mult.number(),
         mask,
     );
     schema[2] = m as u64 + 1;

@@ -4,7 +4,7 @@ ghost use Rattle.std.specs.Prelude.{◌≡◌, ◌+◌, ◌≤◌, length, take,
 ghost use Rattle.std.specs.Float.{binary64};
 ghost use Rattle.std.specs.Float.Ieee.{of_bits};
 ghost use Rattle.tables.specs.Lists.{same_list};
-ghost use Rattle.tables.specs.Texts.{text_from, value_of, place_in, text_in, bytes_at, place_of, same_floats, same_values};
+ghost use Rattle.tables.specs.Texts.{text_kind, text_value, text_from, stored_is, StoredFits, value_of, place_in, text_in, bytes_at, place_of, same_floats, same_values};
 
 use crate::limits::STRING_LIMIT;
 
@@ -34,18 +34,64 @@ pub fn float_of(bits: u64) -> f64
     }
 }
 
-// The text that a table holds as kind and value.
-pub fn text_of(kind: u64, value: u64) -> Text
-    ensures { result ≡ value_of (text_from kind value) }
+// A text as a table holds it: a float by its bits.
+#[derive(Clone, Copy)]
+pub enum StoredText {
+    Number(u64),
+    Str(Place),
+    Whole(u64),
+    Float(u64),
+}
+
+impl StoredText {
+    // The text that a table holds as kind and value.
+    pub fn from_cells(kind: u64, value: u64) -> StoredText
+        ensures { stored_is result ≡ text_from kind value }
+    {
+        match kind {
+            0 => StoredText::Number(value),
+            1 => StoredText::Str(Place {
+                start: (value / STRING_LIMIT) as usize,
+                size: (value % STRING_LIMIT) as usize,
+            }),
+            2 => StoredText::Whole(value),
+            _ => StoredText::Float(value),
+        }
+    }
+
+    pub fn kind(self) -> u64
+        ensures { result ≡ text_kind (stored_is self) }
+    {
+        match self {
+            StoredText::Number(_) => 0,
+            StoredText::Str(_) => 1,
+            StoredText::Whole(_) => 2,
+            StoredText::Float(_) => 3,
+        }
+    }
+
+    pub fn value(self) -> u64
+        requires { StoredFits self }
+        ensures { result ≡ text_value (stored_is self) }
+    {
+        match self {
+            StoredText::Number(n) => n,
+            StoredText::Str(p) => p.start as u64 * STRING_LIMIT + p.size as u64,
+            StoredText::Whole(n) => n,
+            StoredText::Float(bits) => bits,
+        }
+    }
+}
+
+// The text by which a stored one is compared.
+pub fn text_of(t: StoredText) -> Text
+    ensures { result ≡ value_of (stored_is t) }
 {
-    match kind {
-        0 => Text::Number(value),
-        1 => Text::Str(Place {
-            start: (value / STRING_LIMIT) as usize,
-            size: (value % STRING_LIMIT) as usize,
-        }),
-        2 => Text::Whole(value),
-        _ => Text::Float(float_of(value)),
+    match t {
+        StoredText::Number(n) => Text::Number(n),
+        StoredText::Str(p) => Text::Str(p),
+        StoredText::Whole(n) => Text::Whole(n),
+        StoredText::Float(bits) => Text::Float(float_of(bits)),
     }
 }
 
@@ -65,10 +111,8 @@ fn same_bytes(deck: &[u8], a: usize, b: usize, n: usize) -> bool
     ensures { result ≡ same_list (take n (drop a deck.now)) (take n (drop b deck.now)) }
 {
     let mut same = true;
-    let mut i = 0;
-    while i < n {
+    for i in 0..n {
         same = same & (deck[a + i] == deck[b + i]);
-        i += 1;
     }
     same
 }
@@ -78,14 +122,7 @@ pub fn same_string(p: Place, q: Place, deck: &[u8]) -> bool
     requires { place_in deck.now p × place_in deck.now q }
     ensures { result ≡ same_list (bytes_at deck.now (place_of p)) (bytes_at deck.now (place_of q)) }
 {
-    let a = p.start;
-    let m = p.size;
-    let b = q.start;
-    let n = q.size;
-    if m != n {
-        return false;
-    }
-    same_bytes(deck, a, b, n)
+    p.size == q.size && same_bytes(deck, p.start, q.start, q.size)
 }
 
 // The texts are equal: of one kind, with equal values.

@@ -12,8 +12,8 @@ use lib.Dec.{leb, ltb}
 use lib.ListN.{length, get_or, drop, drop_of_length-le}
 use lib.Seq.{drop-cons}
 use Rattle.deck.specs.Deck.{Part, digit, value_from, plain, only, number}
-use Rattle.deck.specs.declared.fields.Num.{Num}
-use Rattle.deck.specs.declared.fields.Num.TheVariants.{Number}
+use Rattle.std.specs.Prelude as program_option
+use Rattle.std.specs.Prelude.{Some}
 use Rattle.deck.specs.Answers.{whole, num_is}
 
 -- the digits behind a number already read, where the whole is at most the largest one
@@ -112,7 +112,7 @@ number-most radix most p v e = by-plain (plain p.bytes) (value_from radix 0 p.by
     by-plain true (some w) e = by-test (leb w most) w refl e
     by-plain false o e = let z : ◌≡◌ {A = ℕ} 0 1 = cc in absurd (omega arith)
 
-pub read-most : (radix most : ℕ) (p : Part) (r : Num) (v : ℕ) → num_is r ≡ number radix most p → r ≡ Number v → v ≤ most
+pub read-most : (radix most : ℕ) (p : Part) (r : program_option.Option ℕ) (v : ℕ) → num_is r ≡ number radix most p → r ≡ Some v → v ≤ most
 unfolding num_is
 read-most radix most p r v e g = number-most radix most p v (sym e ∙ ap num_is g)
 

@@ -8,7 +8,7 @@ use native.Mathlib.Omega.{arith}
 use borrow.Author.Tests.{le-leb, lt-leb}
 use lib.ListN.{length}
 use Rattle.tables.specs.Lists.{all_of, first_of}
-use Rattle.tables.specs.Texts.{text_from}
+use Rattle.tables.specs.Records.{enum_number, string, whole_number, float}
 use Rattle.deck.specs.Deck.{only, number, decimal, hexadecimal, printable, by_letter, texts, text_e, text_s, text_u, text_f}
 use Rattle.tables.specs.Cells.{between}
 use Rattle.tables.specs.Limits.{deck_limit, enum_limit, string_limit}
@@ -35,30 +35,27 @@ module _ (deck : List ℕ) (start end : ℕ) where
   string-bad e = rw (text_s, e)
 
   pub string-is : start ≤ end → end ≤ length deck → length deck ≤ deck_limit → all_of printable (between start end deck) ≡ true
-      → some (text_from 1 (start * string_limit + (end - start))) ≡ text_s (part_at deck start end)
-  unfolding text_s only text_from
-  string-is h k m e =
-      let x : (start * string_limit + (end - start)) / string_limit ≡ start = omega arith in
-      let y : (start * string_limit + (end - start)) % string_limit ≡ end - start = omega arith in
-      rw (text_s, e, x, y, length-between deck start end k)
+      → some (string (record { start = start; size = end - start })) ≡ text_s (part_at deck start end)
+  unfolding text_s only
+  string-is h k m e = rw (text_s, e, length-between deck start end k)
 
 -- ---- kinds by their letters
 
 module _ (deck : List ℕ) (start end : ℕ) where
-  pub letter-e : bind (number 10 enum_limit (whole (between start end deck))) (λ v. some (text_from 0 v)) ≡ by_letter texts 101 (part_at deck start end)
-  unfolding by_letter first_of text_e decimal number text_from
+  pub letter-e : bind (number 10 enum_limit (whole (between start end deck))) (λ v. some (enum_number v)) ≡ by_letter texts 101 (part_at deck start end)
+  unfolding by_letter first_of text_e decimal number
   letter-e = refl
 
   pub letter-s : text_s (part_at deck start end) ≡ by_letter texts 115 (part_at deck start end)
   unfolding by_letter first_of
   letter-s = refl
 
-  pub letter-u : bind (number 10 0xffff_ffff_ffff_ffff (whole (between start end deck))) (λ v. some (text_from 2 v))
+  pub letter-u : bind (number 10 0xffff_ffff_ffff_ffff (whole (between start end deck))) (λ v. some (whole_number v))
       ≡ by_letter texts 117 (part_at deck start end)
-  unfolding by_letter first_of text_u decimal number text_from
+  unfolding by_letter first_of text_u decimal number
   letter-u = refl
 
-  pub letter-f : bind (number 16 0xffff_ffff_ffff_ffff (whole (between start end deck))) (λ v. some (text_from 3 v))
+  pub letter-f : bind (number 16 0xffff_ffff_ffff_ffff (whole (between start end deck))) (λ v. some (float v))
       ≡ by_letter texts 102 (part_at deck start end)
-  unfolding by_letter first_of text_f hexadecimal number text_from
+  unfolding by_letter first_of text_f hexadecimal number
   letter-f = refl

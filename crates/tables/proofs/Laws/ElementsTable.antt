@@ -279,24 +279,24 @@ module _ (xs : List ℕ) (g : GoodElements xs) (m : ℕ) (ys : List ℕ) where
         strings = g.sized.strings;
       })
 
-  pub added-text : (k v : ℕ) → k < 4 → length (elements_of xs).texts < item_limit → m ≡ length (elements_of xs).texts
-      → ys ≡ puts xs (texts_at + m * text_width) (k ∷ v ∷ []) → HoldsElements (set ys 1 (m + 1)) (add_text (elements_of xs) (text_from k v))
+  pub added-text : (t : Text) → TextFits t → length (elements_of xs).texts < item_limit → m ≡ length (elements_of xs).texts
+      → ys ≡ puts xs (texts_at + m * text_width) (text_cells t) → HoldsElements (set ys 1 (m + 1)) (add_text (elements_of xs) t)
   unfolding add_text
-  added-text k v q h e y =
+  added-text t q h e y =
       let es : Elements = elements_of xs in
       let z =
-      appended text_width text_cells wide-text xs (counts es ++ element_area es) (tree_area es) ys (k ∷ v ∷ []) texts_at item_limit m es.texts (text_from k v)
-      (g.raw ∙ cut-texts es) (before-texts es g.sized) h e (text-again k v q) y
+      appended text_width text_cells wide-text xs (counts es ++ element_area es) (tree_area es) ys (text_cells t) texts_at item_limit m es.texts t
+      (g.raw ∙ cut-texts es) (before-texts es g.sized) h e refl y
       in
-      hold-elements (add_text es (text_from k v)) (set ys 1 (m + 1))
-      (ap (λ (l : List ℕ). set l 1 (m + 1)) z ∙ rw (e, ← length-append es.texts (text_from k v ∷ [])) (sym (cut-texts (add_text es (text_from k v)))))
+      hold-elements (add_text es t) (set ys 1 (m + 1))
+      (ap (λ (l : List ℕ). set l 1 (m + 1)) z ∙ rw (e, ← length-append es.texts (t ∷ [])) (sym (cut-texts (add_text es t))))
       (record {
         same_types = g.sized.same_types;
         same_depths = g.sized.same_depths;
         count = g.sized.count;
         text_count = simp length-append (omega arith);
         tree_count = g.sized.tree_count;
-        strings = each_append TextFits es.texts (text_from k v ∷ []) g.sized.strings (fits-from k v, tt);
+        strings = each_append TextFits es.texts (t ∷ []) g.sized.strings (q, tt);
       })
 
   pub added-tree : (t : Tree) → length (elements_of xs).trees < file_limit → m ≡ length (elements_of xs).trees

@@ -8,8 +8,8 @@ use native.Mathlib.Numerals.{add-one}
 use native.Mathlib.Omega.{arith}
 use lib.Dec.{eqb, eqb-suc-zero, eqb-suc-suc}
 use lib.ListN.{length, get_or, drop, drop_of_length-le}
-use Rattle.tables.specs.declared.path.Order.{Order}
-use Rattle.tables.specs.declared.path.Order.TheVariants.{Less, Equal, Greater}
+use Rattle.std.specs.declared.cmp.Ordering as program
+use Rattle.std.specs.Ordering.{is_eq}
 use Rattle.tables.specs.declared.path.Path.{Path}
 use Rattle.tables.specs.Paths.{path_order, same_path, shared_beginning, front, path_cells, cells_of, parts_of, order_of, shares_part}
 use Rattle.tables.specs.Records.{SchemaPath}
@@ -80,16 +80,11 @@ order-next (suc a) (suc b) cs ds e n =
     let q : compare a b ≡ Ordering.eq = rw (suc_inj e) (compare-eq b) in
     rw (q, path_order)
 
-unfoldable pub is_equal : Order → Bool
-is_equal Less = false
-is_equal Equal = true
-is_equal Greater = false
-
-pub same-order : (p q : SchemaPath) → same_path p q ≡ is_equal (order_of (path_order p q))
-unfolding same_path is_equal order_of
+pub same-order : (p q : SchemaPath) → same_path p q ≡ is_eq (order_of (path_order p q))
+unfolding same_path order_of
 same-order p q = go (path_order p q)
   where
-    go : (o : Ordering) → ◌≡◌ {A = Bool} (elim o [ Ordering.lt ↦ false | Ordering.eq ↦ true | Ordering.gt ↦ false ]) (is_equal (order_of o))
+    go : (o : Ordering) → ◌≡◌ {A = Bool} (elim o [ Ordering.lt ↦ false | Ordering.eq ↦ true | Ordering.gt ↦ false ]) (is_eq (order_of o))
     go Ordering.lt = refl
     go Ordering.eq = refl
     go Ordering.gt = refl

@@ -9,8 +9,13 @@ use lib.Seq.{drop_at, take_at, take_all, get_or-take, get_or-drop}
 use Rattle.tables.specs.Cells.{cells, rows_of, puts}
 use Rattle.tables.specs.Limits.{type_limit, group_limit, row_limit, file_limit, path_limit}
 use Rattle.tables.specs.Paths.{front, path_cells}
+use denote.Enum.Declared.{tag_of}
+use mir.Val.{bool_byte}
+use Rattle.tables.specs.contracts.schema.Mult as program_mult_row
+use Rattle.tables.specs.declared.schema.Mult as program_mult
+use Rattle.tables.specs.declared.schema.Mult.TheVariants.{AtMostOne, One, Any}
 use Rattle.tables.specs.Records.{SchemaPath, Mode, sequence, choice, bag, mixed, characters, modes, Mult, at_most_one, one, any, mults, TypeRow, Group, SubElement, File, Schema, no_type, type_row, add_type, add_group, add_sub_element, add_file}
-use Rattle.tables.specs.SchemaTable.{schema_size, types_at, groups_at, rows_at, files_at, types_area, groups_area, rows_area, files_area, type_width, group_width, row_width, file_width, mode_number, mode_from, mult_number, mult_from, bool_number, bool_from, part_cell, type_cells, cells_type, group_cells, cells_group, sub_element_cells, cells_sub_element, file_cells, cells_file, no_group, no_sub_element, no_file, group_index_at, name_index_at, path_index_at, index_at, places_in, group_key, name_key, path_key, key_in, index_of, encode_schema, schema_of, GroupFits, RowFits, SizedSchema, GoodSchema, HoldsSchema}
+use Rattle.tables.specs.SchemaTable.{schema_size, types_at, groups_at, rows_at, files_at, types_area, groups_area, rows_area, files_area, type_width, group_width, row_width, file_width, mode_number, mode_from, mult_is, mult_number, mult_from, bool_number, bool_from, part_cell, type_cells, cells_type, group_cells, cells_group, sub_element_cells, cells_sub_element, file_cells, cells_file, no_group, no_sub_element, no_file, group_index_at, name_index_at, path_index_at, index_at, places_in, group_key, name_key, path_key, key_in, index_of, encode_schema, schema_of, GroupFits, RowFits, SizedSchema, GoodSchema, HoldsSchema}
 use Rattle.tables.specs.Index.{buckets, index_size, latest, linked_at}
 use Rattle.tables.specs.declared.index.Index.{Index}
 use Rattle.tables.specs.declared.index.Index.TheVariants.{Groups, Names, Paths}
@@ -43,12 +48,18 @@ mult-back at_most_one = refl
 mult-back one = refl
 mult-back any = refl
 
-pub mult-again : (n : ℕ) → n < length mults → mult_number (mult_from n) ≡ n
+-- a truth as the number of its cell
+pub bool_cell : (b : Bool) → bool_byte b ≡ bool_number b
+unfolding bool_number
+bool_cell false = refl
+bool_cell true = refl
+
+-- the program's mults stand in the order of their numbers
+pub mult_tag : (m : program_mult.Mult) → tag_of program_mult_row.the_type m ≡ mult_number (mult_is m)
 unfolding mult_number
-mult-again zero h = refl
-mult-again (suc zero) h = refl
-mult-again (suc (suc zero)) h = refl
-mult-again (suc (suc (suc n))) h = absurd (omega arith)
+mult_tag AtMostOne = refl
+mult_tag One = refl
+mult_tag Any = refl
 
 pub bool-back : (b : Bool) → bool_from (bool_number b) ≡ b
 unfolding bool_number
@@ -148,9 +159,9 @@ module _ (t a b c d : ℕ) (p : SchemaPath) (e : a ∷ b ∷ c ∷ d ∷ [] ≡ 
   pub group-cells : (m : ℕ) → m < length modes → group_cells (record { type = t; path = p; mode = mode_from m }) ≡ t ∷ a ∷ b ∷ c ∷ d ∷ m ∷ []
   group-cells m h = rw (← e, mode-again m h)
 
-  pub row-cells : (n u m k : ℕ) → m < 3
-      → sub_element_cells (record { type = t; path = p; name = n; child_type = u; mult = mult_from m; mask = k }) ≡ t ∷ a ∷ b ∷ c ∷ d ∷ n ∷ u ∷ m ∷ k ∷ []
-  row-cells n u m k h = rw (← e, mult-again m h)
+  pub row-cells : (n u : ℕ) (m : Mult) (k : ℕ) {r : ℕ} → r ≡ mult_number m
+      → sub_element_cells (record { type = t; path = p; name = n; child_type = u; mult = m; mask = k }) ≡ t ∷ a ∷ b ∷ c ∷ d ∷ n ∷ u ∷ r ∷ k ∷ []
+  row-cells n u m k h = rw (← e, h)
 
 pub type-cells : (m c k : ℕ) (b : Bool) → m < length modes → c ≡ bool_number b → type_cells (record { mode = mode_from m; named = b; split = k }) ≡ m ∷ c ∷ k ∷ []
 type-cells m c k b h e = rw (e, mode-again m h)

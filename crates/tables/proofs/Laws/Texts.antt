@@ -16,7 +16,10 @@ use Rattle.tables.specs.declared.text.Text as code_text
 use Rattle.tables.specs.declared.text.Text.TheVariants.{Number, Str, Whole, Float as FloatValue}
 use Rattle.tables.specs.Lists.{same_list}
 use Rattle.tables.specs.Records.{Place, Text, enum_number, string, whole_number, float}
-use Rattle.tables.specs.Texts.{bytes_at, same_floats, same_float, same_text, value_of, same_values}
+use Rattle.tables.specs.declared.text.StoredText as stored
+use Rattle.tables.specs.declared.text.StoredText.TheVariants.{Number as StoredNumber, Str as StoredStr, Whole as StoredWhole, Float as StoredFloat}
+use Rattle.tables.specs.ElementsTable.{TextFits}
+use Rattle.tables.specs.Texts.{stored_is, StoredFits, bytes_at, same_floats, same_float, same_text, value_of, same_values}
 use Rattle.tables.proofs.Laws.Scans.{and-all}
 
 -- ---- floats
@@ -127,6 +130,14 @@ sizes-differ d p q hp hq n =
   where
     size-at : (r : Place) → r.start + r.size ≤ length d → length (take r.size (drop r.start d)) ≡ r.size
     size-at r h = length-take-le r.size (drop r.start d) (omega (arith, length-drop r.start d))
+
+-- ---- stored texts
+
+pub stored_fits : (t : stored.StoredText) → StoredFits t → TextFits (stored_is t)
+stored_fits (StoredNumber n) h = tt
+stored_fits (StoredStr p) h = h.0
+stored_fits (StoredWhole n) h = tt
+stored_fits (StoredFloat b) h = tt
 
 -- ---- texts of different kinds
 

@@ -5,8 +5,5 @@ use Rattle.tables.specs.Lists.{all_of}
 use Rattle.deck.specs.Deck.{printable}
 use Rattle.deck.proofs.fields.all_printable.Given as goal
 
-abbrev pub invariant-loop-i : goal.invariant-loop-i
-invariant-loop-i l = all_of printable (drop l.i l.s) ≡ all_of printable l.s
-
-abbrev pub decreases-loop-i : goal.decreases-loop-i
-decreases-loop-i l = length l.s - l.i
+abbrev pub invariant-loop-b : goal.invariant-loop-b
+invariant-loop-b l = all_of printable (drop l.b-index l.s) ≡ all_of printable l.s

@@ -4,6 +4,3 @@ use Rattle.deck.proofs.fields.path_field.Given as goal
 
 abbrev pub invariant-loop-n : goal.invariant-loop-n
 invariant-loop-n l = PathReading l.deck l.start l.end l.most l.p l.n l.at
-
-abbrev pub decreases-loop-n : goal.decreases-loop-n
-decreases-loop-n l = l.most - l.n

@@ -11,4 +11,4 @@ returns-then-not-all_printable c = record { is = sym (string-bad c.args.deck.now
 pub returns : goal.returns
 unfolding text_is
 returns c =
-    record { is = string-is c.args.deck.now c.args.start c.args.end (omega arith) (omega arith) (omega arith) (sym c.all_printable.ensures ∙ c.if-not-all_printable.false); fits = omega arith }
+    record { is = string-is c.args.deck.now c.args.start c.args.end (omega arith) (omega arith) (omega arith) (sym c.all_printable.ensures ∙ c.if-not-all_printable.false); fits = (omega arith, omega arith) }

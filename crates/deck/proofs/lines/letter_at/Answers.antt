@@ -1,4 +1,3 @@
-use mathlib.Core.Option.{some}
 use mathlib.Core.Path.{sym, ◌∙◌, ap}
 use native.Mathlib.Omega.{arith}
 use Rattle.deck.specs.Deck.{letter}
@@ -16,7 +15,7 @@ bounds-deck-a c =
 pub returns-then-e-a-eq1 : goal.returns-then-e-a-eq1
 unfolding num_is
 returns-then-e-a-eq1 c =
-    ap some c.wide.ensures ∙ sym (letter-one c.args.deck.now c.places-p.result.start c.places-p.result.end (c.places-p.ensures c.args.deck.now c.requires).within c.if-e-a-eq1.true) ∙ ap letter (c.places-p.ensures c.args.deck.now c.requires).is
+    sym (letter-one c.args.deck.now c.places-p.result.start c.places-p.result.end (c.places-p.ensures c.args.deck.now c.requires).within c.if-e-a-eq1.true) ∙ ap letter (c.places-p.ensures c.args.deck.now c.requires).is
 
 pub returns-else-e-a-eq1 : goal.returns-else-e-a-eq1
 unfolding num_is

@@ -9,16 +9,16 @@ use Rattle.deck.proofs.Laws.Numbers.{read-most}
 use Rattle.deck.proofs.Laws.Lines.{fields-count}
 use Rattle.deck.proofs.lines.line_b.Goals as goal
 
-pub returns-in_default : goal.returns-in_default
+pub returns-in_err-file : goal.returns-in_err-file
 unfolding line_is num_is bind only line_b file_field decimal
-returns-in_default c = record { is = rw (← c.number_at.ensures, c.in_default.is); fits = tt }
+returns-in_err-file c = record { is = rw (c.from_residual.ensures, ← c.number_at.ensures, c.in_err-file.was); fits = rw c.from_residual.ensures tt }
 
 pub returns-then-f-ne2 : goal.returns-then-f-ne2
 unfolding line_is num_is bind only line_b file_field decimal
 returns-then-f-ne2 c =
-    record { is = rw (← c.number_at.ensures, c.in-Number.is, fields-count c.args.deck.now c.args.f c.requires, ne_eqb _ 2 c.if-f-ne2.true); fits = tt }
+    record { is = rw (← c.number_at.ensures, c.in_ok-file.was, fields-count c.args.deck.now c.args.f c.requires, ne_eqb _ 2 c.if-f-ne2.true); fits = tt }
 
 pub returns : goal.returns
 unfolding line_is num_is bind only line_b file_field decimal
 returns c =
-    record { is = rw (← c.number_at.ensures, c.in-Number.is, fields-count c.args.deck.now c.args.f c.requires, eq-eqb _ 2 c.if-f-ne2.false); fits = omega (arith, read-most 10 (file_limit - 1) _ _ _ c.number_at.ensures c.in-Number.is) }
+    record { is = rw (← c.number_at.ensures, c.in_ok-file.was, fields-count c.args.deck.now c.args.f c.requires, eq-eqb _ 2 c.if-f-ne2.false); fits = omega (arith, read-most 10 (file_limit - 1) _ _ _ c.number_at.ensures c.in_ok-file.was) }

@@ -7,10 +7,10 @@ use Rattle.deck.proofs.lines.read_line.Goals as goal
 pub letter_at-requires : goal.letter_at-requires
 letter_at-requires c = c.split-f.ensures.placed
 
-pub returns-in_default : goal.returns-in_default
+pub returns-in_err-kind : goal.returns-in_err-kind
 unfolding line_is num_is
-returns-in_default c =
-    record { is = sym (read-bad c.args.deck.now (part_at c.args.deck.now c.args.start c.args.end) c.split-f.result c.split-f.ensures (sym c.letter_at.ensures ∙ ap num_is c.in_default.is)); fits = tt }
+returns-in_err-kind c =
+    record { is = ap line_is c.from_residual.ensures ∙ sym (read-bad c.args.deck.now (part_at c.args.deck.now c.args.start c.args.end) c.split-f.result c.split-f.ensures (sym c.letter_at.ensures ∙ ap num_is c.in_err-kind.was)); fits = rw c.from_residual.ensures tt }
 
 pub row-requires : goal.row-requires
 row-requires c = (c.split-f.ensures.placed, search rules)
@@ -18,4 +18,4 @@ row-requires c = (c.split-f.ensures.placed, search rules)
 pub returns : goal.returns
 unfolding num_is
 returns c =
-    record { is = c.row.ensures.is ∙ read-kind c.args.deck.now (part_at c.args.deck.now c.args.start c.args.end) c.split-f.result c.split-f.ensures c.in-Number.kind (sym c.letter_at.ensures ∙ ap num_is c.in-Number.is); fits = c.row.ensures.fits }
+    record { is = c.row.ensures.is ∙ read-kind c.args.deck.now (part_at c.args.deck.now c.args.start c.args.end) c.split-f.result c.split-f.ensures c.in_ok-kind.kind (sym c.letter_at.ensures ∙ ap num_is c.in_ok-kind.was); fits = c.row.ensures.fits }

@@ -7,6 +7,3 @@ use Rattle.tables.proofs.index.path_bucket.Given as goal
 
 abbrev pub invariant-loop-i : goal.invariant-loop-i
 invariant-loop-i l = path_bucket l.k (front (drop l.i (cells_of l.p))) ≡ path_bucket l.t (parts_of l.p)
-
-abbrev pub decreases-loop-i : goal.decreases-loop-i
-decreases-loop-i l = 4 - l.i

@@ -6,6 +6,3 @@ use Rattle.tables.proofs.model.fill.Given as goal
 
 abbrev pub invariant-loop-j : goal.invariant-loop-j
 invariant-loop-j l = (l.table ≡ replicate l.j l.v ++ drop l.j l.initial.table) × (length l.table ≡ length l.initial.table) × (l.j ≤ length l.initial.table)
-
-abbrev pub decreases-loop-j : goal.decreases-loop-j
-decreases-loop-j l = length l.initial.table - l.j

@@ -16,11 +16,11 @@ overflow_sub-s c = omega (arith, c.loop-j.invariant.2 c.loop-j.j (le_refl c.loop
 pub loop-j-preserved : goal.loop-j-preserved
 loop-j-preserved c =
     let k = c.args.k in (
-      on_from-turn (λ (x : ℕ). x - k) c.loop-j.s c.loop-j.j c.loop-j-test.true ∙ c.loop-j.invariant.0,
+      on_from-turn (λ (x : ℕ). x - k) c.loop-j.s c.loop-j.j (omega arith) ∙ c.loop-j.invariant.0,
       simp length-set c.loop-j.invariant.1,
       λ n h b. rw (get_or-set_other c.loop-j.s c.loop-j.j n (get_or c.loop-j.s c.loop-j.j 0 - k) 0 (omega arith)) (c.loop-j.invariant.2 n (omega arith) b),
     )
 
 pub returns : goal.returns
 returns c =
-    sym (on_from-past (λ (x : ℕ). x - c.args.k) c.loop-j.s c.loop-j.j c.loop-j-test.false) ∙ c.loop-j.invariant.0
+    sym (on_from-past (λ (x : ℕ). x - c.args.k) c.loop-j.s c.loop-j.j (omega arith)) ∙ c.loop-j.invariant.0

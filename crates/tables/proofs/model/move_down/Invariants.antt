@@ -6,6 +6,3 @@ use Rattle.tables.proofs.model.move_down.Given as goal
 
 abbrev pub invariant-loop-j : goal.invariant-loop-j
 invariant-loop-j l = (shift_out l.s l.j l.k ≡ shift_out l.initial.s 0 l.k) × (length l.s ≡ length l.initial.s) × (l.j ≤ l.n)
-
-abbrev pub decreases-loop-j : goal.decreases-loop-j
-decreases-loop-j l = l.n - l.j

@@ -7,6 +7,3 @@ use Rattle.tables.proofs.model.move_up.Given as goal
 -- the cells from j + k on are moved
 abbrev pub invariant-loop-j : goal.invariant-loop-j
 invariant-loop-j l = (remove_run l.s l.j l.k ≡ take (length l.initial.s - l.k) l.initial.s) × (length l.s ≡ length l.initial.s) × (l.j + l.k ≤ length l.initial.s)
-
-abbrev pub decreases-loop-j : goal.decreases-loop-j
-decreases-loop-j l = l.j

@@ -7,6 +7,3 @@ use Rattle.tables.proofs.model.raise_from.Given as goal
 
 abbrev pub invariant-loop-j : goal.invariant-loop-j
 invariant-loop-j l = (on_from (λ (x : ℕ). x + l.k) l.s l.j ≡ on_from (λ (x : ℕ). x + l.k) l.initial.s l.i) × (length l.s ≡ length l.initial.s) × ((n : ℕ) → l.j ≤ n → get_or l.s n 0 ≤ item_limit)
-
-abbrev pub decreases-loop-j : goal.decreases-loop-j
-decreases-loop-j l = length l.initial.s - l.j

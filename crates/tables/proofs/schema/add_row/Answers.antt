@@ -3,7 +3,7 @@ use native.Mathlib.Omega.{arith}
 use lib.ListN.{length-set}
 use borrow.Author.Rules.{rules}
 use Rattle.tables.specs.Paths.{cells_of, parts_of}
-use Rattle.tables.specs.SchemaTable.{mult_from}
+use Rattle.tables.specs.SchemaTable.{mult_is}
 use Rattle.tables.proofs.Laws.SchemaTable.{added-row, row-cells, length_front}
 use Rattle.tables.proofs.schema.add_row.Goals as goal
 
@@ -22,11 +22,11 @@ returns c =
       path = parts_of c.args.p;
       name = c.args.n.0;
       child_type = c.args.child.0;
-      mult = mult_from c.args.mult;
+      mult = mult_is c.args.mult;
       mask = c.args.mask;
     })
     _ _ (length_front (cells_of c.args.p)) (search rules) c.row_count-m.ensures
-    (row-cells c.args.t.0 _ _ _ _ (parts_of c.args.p) c.stored_path-q.ensures c.args.n.0 c.args.child.0 c.args.mult c.args.mask (search rules))
+    (row-cells c.args.t.0 _ _ _ _ (parts_of c.args.p) c.stored_path-q.ensures c.args.n.0 c.args.child.0 (mult_is c.args.mult) c.args.mask c.number.ensures)
     c.put9.ensures c.bucket.ensures.value c.path_bucket.ensures.value)
 
 pub shape_of-schema : goal.shape_of-schema

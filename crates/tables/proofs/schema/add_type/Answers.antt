@@ -1,9 +1,9 @@
 use borrow.Author.Rules.{rules}
 use Rattle.tables.specs.SchemaTable.{mode_from}
-use Rattle.tables.proofs.Laws.SchemaTable.{added-type, type-cells}
+use Rattle.tables.proofs.Laws.SchemaTable.{added-type, bool_cell, type-cells}
 use Rattle.tables.proofs.schema.add_type.Goals as goal
 
 pub returns : goal.returns
 returns c =
     added-type c.args.schema.now (search rules) _ _ _ (record { mode = mode_from c.args.mode; named = c.args.named; split = c.args.split }) (search rules)
-    c.type_count-m.ensures (type-cells c.args.mode _ c.args.split c.args.named (search rules) c.bool_cell-n.ensures) c.put3.ensures
+    c.type_count-m.ensures (type-cells c.args.mode _ c.args.split c.args.named (search rules) (bool_cell c.args.named)) c.put3.ensures

@@ -8,6 +8,3 @@ use Rattle.tables.proofs.text.same_bytes.Given as goal
 abbrev pub invariant-loop-i : goal.invariant-loop-i
 invariant-loop-i l =
     (l.same && same_list (take (l.n - l.i) (drop (l.a + l.i) l.deck)) (take (l.n - l.i) (drop (l.b + l.i) l.deck))) ≡ same_list (take l.n (drop l.a l.deck)) (take l.n (drop l.b l.deck))
-
-abbrev pub decreases-loop-i : goal.decreases-loop-i
-decreases-loop-i l = l.n - l.i

@@ -1,23 +1,18 @@
-use mathlib.Core.Path.{ap}
-use borrow.Author.Tests.{ne_eqb}
-use borrow.Author.Rules.{rules}
-use Rattle.tables.specs.Texts.{text_from, value_of}
-use Rattle.tables.specs.declared.text.Text.TheVariants.{Float}
+use Rattle.tables.specs.Texts.{value_of}
 use Rattle.tables.proofs.text.text_of.Goals as goal
 
-pub returns-in-0 : goal.returns-in-0
-unfolding text_from value_of
-returns-in-0 c = rw c.in-0.is
+pub returns-in-Number : goal.returns-in-Number
+unfolding value_of
+returns-in-Number c = rw c.in-Number.is
 
-pub returns-in-1 : goal.returns-in-1
-unfolding text_from value_of
-returns-in-1 c = rw c.in-1.is
+pub returns-in-Str : goal.returns-in-Str
+unfolding value_of
+returns-in-Str c = rw c.in-Str.is
 
-pub returns-in-2 : goal.returns-in-2
-unfolding text_from value_of
-returns-in-2 c = rw c.in-2.is
+pub returns-in-Whole : goal.returns-in-Whole
+unfolding value_of
+returns-in-Whole c = rw c.in-Whole.is
 
-pub returns-in_default : goal.returns-in_default
-unfolding text_from value_of
-returns-in_default c = let k = c.args.kind in
-    rw (ne_eqb k 0 (search rules), ne_eqb k 1 (search rules), ne_eqb k 2 (search rules)) (ap Float c.float_of.ensures)
+pub returns-in-Float : goal.returns-in-Float
+unfolding value_of
+returns-in-Float c = rw (c.in-Float.is, c.float_of.ensures)

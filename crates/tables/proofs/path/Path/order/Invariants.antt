@@ -6,6 +6,3 @@ use Rattle.tables.proofs.path.Path.order.Given as goal
 
 abbrev pub invariant-loop-i : goal.invariant-loop-i
 invariant-loop-i l = path_order (parts_of l.self) (parts_of l.q) ≡ path_order (front (drop l.i (cells_of l.self))) (front (drop l.i (cells_of l.q)))
-
-abbrev pub decreases-loop-i : goal.decreases-loop-i
-decreases-loop-i l = 4 - l.i
