@@ -7,19 +7,19 @@ use Rattle.tables.specs.Lists.{any_of, all_of}
 use Rattle.tables.specs.Paths.{same_path}
 use Rattle.tables.specs.Records.{Name, TypeNumber, FileNumber, FileSet, Version, Mask, SchemaPath, Group, SubElement, File, Schema}
 use Rattle.deck.specs.Schema.{proper_beginnings, has_group, meets}
-use Rattle.schema_calls.specs.declared.calls.Found.{Found}
-use Rattle.schema_calls.specs.declared.calls.Found.TheVariants.{At, Missing}
+use Rattle.std.specs.Prelude as program_option
+use Rattle.std.specs.Prelude.{Some, None}
 
 -- the entry found
-unfoldable pub found_in : {A : Type 0} → A → List A → Found → Option A
-found_in default l (At i) = some (get_or l i default)
-found_in default l Missing = none
+unfoldable pub found_in : {A : Type 0} → A → List A → program_option.Option ℕ → Option A
+found_in default l (Some i) = some (get_or l i default)
+found_in default l None = none
 
-abbrev pub FoundWithin : ℕ → Found → Type 0
-FoundWithin n (At i) = i < n
-FoundWithin n Missing = Unit {0}
+abbrev pub FoundWithin : ℕ → program_option.Option ℕ → Type 0
+FoundWithin n (Some i) = i < n
+FoundWithin n None = Unit {0}
 
-pub record Finds {A : Type 0} (default : A) (l : List A) (r : Found) (o : Option A) : Type 0 where
+pub record Finds {A : Type 0} (default : A) (l : List A) (r : program_option.Option ℕ) (o : Option A) : Type 0 where
   pub is : found_in default l r ≡ o
   pub within : FoundWithin (length l) r
 

@@ -7,8 +7,8 @@ use Rattle.tables.specs.SchemaTable.{no_group, no_sub_element}
 use Rattle.tables.specs.declared.index.Index.{Index}
 use Rattle.tables.specs.declared.index.Index.TheVariants.{Groups, Names, Paths}
 use Rattle.schema_calls.specs.Calls.{row_matches, name_matches, path_matches, group_matches}
-use Rattle.schema_calls.specs.declared.calls.Found.{Found}
-use Rattle.schema_calls.specs.declared.calls.Found.TheVariants.{At, Missing}
+use Rattle.std.specs.Prelude as program_option
+use Rattle.std.specs.Prelude.{Some, None, is_some}
 use Rattle.schema_calls.specs.declared.search.Sought.{Sought}
 use Rattle.schema_calls.specs.declared.search.Sought.TheVariants.{Row, Name, Path, Group}
 
@@ -42,22 +42,18 @@ alike_at sc Paths i k = let r = get_or sc.sub_elements i no_sub_element in path_
 -- ---- places that pass a test
 
 -- the first of two answers that found something
-unfoldable pub first_found : Found → Found → Found
-first_found (At i) r = At i
-first_found Missing r = r
+unfoldable pub first_found : program_option.Option ℕ → program_option.Option ℕ → program_option.Option ℕ
+first_found (Some i) r = Some i
+first_found None r = r
 
-abbrev pub found_at : Bool → ℕ → Found
-found_at b i = elim b [ true ↦ At i | false ↦ Missing ]
+abbrev pub found_at : Bool → ℕ → program_option.Option ℕ
+found_at b i = elim b [ true ↦ Some i | false ↦ None ]
 
 -- the first place below n that passes
-unfoldable pub first_below : (ℕ → Bool) → ℕ → Found
-first_below test zero = Missing
+unfoldable pub first_below : (ℕ → Bool) → ℕ → program_option.Option ℕ
+first_below test zero = None
 first_below test (suc n) = first_found (first_below test n) (found_at (test n) n)
-
-unfoldable pub is_found : Found → Bool
-is_found (At i) = true
-is_found Missing = false
 
 -- some place below n passes
 abbrev pub any_below : (ℕ → Bool) → ℕ → Bool
-any_below test n = is_found (first_below test n)
+any_below test n = is_some (first_below test n)

@@ -12,14 +12,7 @@ use tables::numbers::{Name, TypeNumber};
 use tables::path::Path;
 use tables::schema::{group_count, group_mode, row_count, type_mode, type_split};
 
-// The place of the entry found.
-#[derive(Clone, Copy)]
-pub enum Found {
-    At(usize),
-    Missing,
-}
-
-pub fn find_sub_element(schema: &[u64], t: TypeNumber, n: Name, mask: u64) -> Found
+pub fn find_sub_element(schema: &[u64], t: TypeNumber, n: Name, mask: u64) -> Option<usize>
     requires { GoodSchema schema.now }
     ensures { Finds no_sub_element (schema_of schema.now).sub_elements result (find_sub_element (schema_of schema.now) t.0 n.0 mask) }
 {
@@ -28,7 +21,7 @@ pub fn find_sub_element(schema: &[u64], t: TypeNumber, n: Name, mask: u64) -> Fo
 }
 
 // The row of the name in the type, whatever its mask.
-pub fn row_of_name(schema: &[u64], t: TypeNumber, n: Name) -> Found
+pub fn row_of_name(schema: &[u64], t: TypeNumber, n: Name) -> Option<usize>
     requires { GoodSchema schema.now }
     ensures { Finds no_sub_element (schema_of schema.now).sub_elements result (row_of_name (schema_of schema.now) t.0 n.0) }
 {
@@ -36,7 +29,7 @@ pub fn row_of_name(schema: &[u64], t: TypeNumber, n: Name) -> Found
 }
 
 // The type's group at the path, among the groups above this place.
-pub fn find_group(schema: &[u64], t: TypeNumber, p: Path, above: usize) -> Found
+pub fn find_group(schema: &[u64], t: TypeNumber, p: Path, above: usize) -> Option<usize>
     requires good_schema { GoodSchema schema.now }
     requires above_in_bounds { above ≤ length (schema_of schema.now).groups }
     ensures { Finds no_group (schema_of schema.now).groups result (group_at (groups_above (schema_of schema.now) above) t.0 (parts_of p)) }
@@ -62,10 +55,9 @@ pub fn mode_of_group(schema: &[u64], t: TypeNumber, p: Path) -> u64
         return type_mode(schema, t);
     }
     let count = group_count(schema);
-    let found = find_group(schema, t, p, count);
-    match found {
-        Found::At(i) => group_mode(schema, i),
-        Found::Missing => type_mode(schema, t),
+    match find_group(schema, t, p, count) {
+        Some(i) => group_mode(schema, i),
+        None => type_mode(schema, t),
     }
 }
 

@@ -9,37 +9,28 @@ ghost use Rattle.tables.specs.SetCells.{set_is};
 ghost use Rattle.deck.specs.Schema.{declares_file, declared_files, version_of, least_version};
 ghost use Rattle.schema_calls.specs.Calls.{Finds, file_matches, least_with};
 
-use crate::calls::Found;
 use tables::file_set::FileSet;
 use tables::numbers::FileNumber;
 use tables::schema::{file_count, file_number, file_version};
 
 // The first row of the file.
-fn find_file(schema: &[u64], f: FileNumber) -> Found
+fn find_file(schema: &[u64], f: FileNumber) -> Option<usize>
     requires { GoodSchema schema.now }
     ensures { Finds no_file (schema_of schema.now).files result (first_of (file_matches f.0) (schema_of schema.now).files) }
 {
-    let count = file_count(schema);
-    let mut i: usize = 0;
-    while i < count {
-        let g = file_number(schema, i);
-        if g.0 == f.0 {
-            return Found::At(i);
+    for i in 0..file_count(schema) {
+        if file_number(schema, i) == f {
+            return Some(i);
         }
-        i += 1;
     }
-    Found::Missing
+    None
 }
 
 pub fn declares_file(schema: &[u64], f: FileNumber) -> bool
     requires { GoodSchema schema.now }
     ensures { result ≡ declares_file (schema_of schema.now) f.0 }
 {
-    let found = find_file(schema, f);
-    match found {
-        Found::At(_) => true,
-        Found::Missing => false,
-    }
+    find_file(schema, f).is_some()
 }
 
 pub fn declared_files(schema: &[u64]) -> FileSet
@@ -48,11 +39,8 @@ pub fn declared_files(schema: &[u64]) -> FileSet
     ensures { set_is result ≡ declared_files (schema_of schema.now) }
 {
     let mut s = FileSet::none();
-    let mut i = file_count(schema);
-    while 0 < i {
-        i -= 1;
-        let f = file_number(schema, i);
-        s = s.with(f);
+    for i in (0..file_count(schema)).rev() {
+        s = s.with(file_number(schema, i));
     }
     s
 }
@@ -62,10 +50,9 @@ pub fn version_of(schema: &[u64], f: FileNumber) -> u64
     requires { GoodSchema schema.now }
     ensures { result ≡ version_of (schema_of schema.now) f.0 }
 {
-    let found = find_file(schema, f);
-    match found {
-        Found::At(i) => file_version(schema, i),
-        Found::Missing => 0,
+    match find_file(schema, f) {
+        Some(i) => file_version(schema, i),
+        None => 0,
     }
 }
 
@@ -86,14 +73,11 @@ pub fn least_version(schema: &[u64], s: FileSet, v: u64) -> u64
     requires { GoodSchema schema.now }
     ensures { result ≡ least_version (schema_of schema.now) (set_is s) v }
 {
-    let count = file_count(schema);
     let mut least = v;
-    let mut i: usize = 0;
-    while i < count {
+    for i in 0..file_count(schema) {
         let f = file_number(schema, i);
         let w = file_version(schema, i);
         least = least_with(s, f, least, w);
-        i += 1;
     }
     least
 }

@@ -6,7 +6,6 @@ ghost use Rattle.tables.specs.SchemaTable.{schema_of, GoodSchema, places_in, no_
 ghost use Rattle.schema_calls.specs.Calls.{row_matches, name_matches, path_matches, group_matches};
 ghost use Rattle.schema_calls.specs.Search.{index_for, bucket_for, matches_at, alike_at, first_below, any_below};
 
-use crate::calls::Found;
 use tables::index::{Index, bucket, latest, latest_above, path_bucket};
 use tables::numbers::{Name, TypeNumber};
 use tables::path::Path;
@@ -70,9 +69,7 @@ fn name_matches(schema: &[u64], i: usize, t: TypeNumber, n: Name) -> bool
     requires i_in_bounds { i < length (schema_of schema.now).sub_elements }
     ensures { result ≡ name_matches t.0 n.0 (get_or (schema_of schema.now).sub_elements i no_sub_element) }
 {
-    let ty = row_type(schema, i);
-    let name = row_name(schema, i);
-    (ty.0 == t.0) & (name.0 == n.0)
+    (row_type(schema, i) == t) & (row_name(schema, i) == n)
 }
 
 // Row i is the type's, has the name, and its mask meets the mask.
@@ -92,12 +89,7 @@ fn path_matches(schema: &[u64], i: usize, t: TypeNumber, p: Path) -> bool
     requires i_in_bounds { i < length (schema_of schema.now).sub_elements }
     ensures { result ≡ path_matches t.0 (parts_of p) (get_or (schema_of schema.now).sub_elements i no_sub_element) }
 {
-    let ty = row_type(schema, i);
-    if ty.0 != t.0 {
-        return false;
-    }
-    let q = row_path(schema, i);
-    q.same(p)
+    row_type(schema, i) == t && row_path(schema, i).same(p)
 }
 
 // Group i is the type's, and has the path.
@@ -106,33 +98,23 @@ fn group_matches(schema: &[u64], i: usize, t: TypeNumber, p: Path) -> bool
     requires i_in_bounds { i < length (schema_of schema.now).groups }
     ensures { result ≡ group_matches t.0 (parts_of p) (get_or (schema_of schema.now).groups i no_group) }
 {
-    let ty = group_type(schema, i);
-    if ty.0 != t.0 {
-        return false;
-    }
-    let q = group_path(schema, i);
-    q.same(p)
+    group_type(schema, i) == t && group_path(schema, i).same(p)
 }
 
 // The first in deck order of what is sought, among the places above this one: the last that the bucket's links lead to.
-pub fn find(schema: &[u64], sought: Sought, above: usize) -> Found
+pub fn find(schema: &[u64], sought: Sought, above: usize) -> Option<usize>
     requires good_schema { GoodSchema schema.now }
     requires above_bound { above ≤ places_in (schema_of schema.now) (index_for sought) }
     ensures { result ≡ first_below (matches_at (schema_of schema.now) sought) above }
 {
     let x = sought.index();
-    let mut found = Found::Missing;
+    let mut found = None;
     let mut next = latest(schema, x, sought.bucket());
-    while next != 0 {
-        let i = next - 1;
+    while let Some(i) = next {
         next = latest_above(schema, x, i);
-        if above <= i {
-            continue;
+        if i < above && sought.matches(schema, i) {
+            found = Some(i);
         }
-        if !sought.matches(schema, i) {
-            continue;
-        }
-        found = Found::At(i);
     }
     found
 }
@@ -142,11 +124,7 @@ pub fn is_found(schema: &[u64], sought: Sought, above: usize) -> bool
     requires above_bound { above ≤ places_in (schema_of schema.now) (index_for sought) }
     ensures { result ≡ any_below (matches_at (schema_of schema.now) sought) above }
 {
-    let found = find(schema, sought, above);
-    match found {
-        Found::At(_) => true,
-        Found::Missing => false,
-    }
+    find(schema, sought, above).is_some()
 }
 
 // Places i and k have the same type and, by the index, the same name or path.
@@ -170,8 +148,7 @@ pub fn repeats(schema: &[u64], x: Index, i: usize) -> bool
     ensures { result ≡ any_below (alike_at (schema_of schema.now) x i) i }
 {
     let mut next = latest_above(schema, x, i);
-    while next != 0 {
-        let k = next - 1;
+    while let Some(k) = next {
         if alike(schema, x, i, k) {
             return true;
         }

@@ -4,7 +4,7 @@ use mathlib.Core.Bool.{Bool, true, false, ◌&&◌, and-eq-true_iff}
 use mathlib.Core.List.{List, [], ◌∷◌, ◌++◌}
 use mathlib.Core.Option.{Option, none, some, none-ne-some}
 use mathlib.Core.Path.{◌≡◌, refl, sym, ap, ◌∙◌}
-use Prim.Native.Nat.{ℕ, zero, suc, ◌-◌, ◌≤◌, ◌<◌}
+use Prim.Native.Nat.{ℕ, zero, suc, ◌≤◌, ◌<◌}
 use native.Mathlib.Omega.{arith}
 use borrow.Author.Tests.{eqb-true, eqb-false, lt-ltb, le-ltb}
 use lib.Dec.{eqb, ltb}
@@ -19,16 +19,15 @@ use Rattle.tables.specs.declared.index.Index.{Index}
 use Rattle.tables.specs.declared.index.Index.TheVariants.{Groups, Names, Paths}
 use Rattle.tables.proofs.Laws.Cases.{bool-split}
 use Rattle.tables.proofs.Laws.Index.{latest-most}
-use Rattle.tables.proofs.Laws.Scans.{any_some, any_none}
 use Rattle.deck.specs.Schema.{meets}
 use Rattle.schema_calls.specs.Calls.{Finds, found_in, name_matches}
-use Rattle.schema_calls.specs.Search.{index_for, bucket_for, matches_at, alike_at, first_found, found_at, first_below, is_found, any_below}
-use Rattle.schema_calls.specs.declared.calls.Found.{Found}
-use Rattle.schema_calls.specs.declared.calls.Found.TheVariants.{At, Missing}
+use Rattle.schema_calls.specs.Search.{index_for, bucket_for, matches_at, alike_at, first_found, found_at, first_below, any_below}
+use Rattle.std.specs.Prelude as program_option
+use Rattle.std.specs.Prelude.{Some, None, is_some}
 use Rattle.schema_calls.specs.declared.search.Sought.{Sought}
 use Rattle.schema_calls.specs.declared.search.Sought.TheVariants.{Row, Name, Path, Group}
 use Rattle.schema_calls.proofs.Laws.Closed.{same-equal}
-use Rattle.schema_calls.proofs.Laws.Scans.{found-at, found-missing}
+use Rattle.schema_calls.proofs.Laws.Scans.{found-any}
 
 -- ---- what matches is of the bucket
 
@@ -63,20 +62,20 @@ key-of-alike sc Paths i k h =
 
 -- ---- the first of two answers
 
-found-missing-right : (r : Found) → first_found r Missing ≡ r
+found-missing-right : (r : program_option.Option ℕ) → first_found r None ≡ r
 unfolding first_found
-found-missing-right (At i) = refl
-found-missing-right Missing = refl
+found-missing-right (Some i) = refl
+found-missing-right None = refl
 
-found-last : (r : Found) (i : ℕ) → true ≡ is_found (first_found r (At i))
-unfolding first_found is_found
-found-last (At j) i = refl
-found-last Missing i = refl
-
-found-thrice : (p q r : Found) → first_found (first_found p q) r ≡ first_found p (first_found q r)
+found-last : (r : program_option.Option ℕ) (i : ℕ) → true ≡ is_some (first_found r (Some i))
 unfolding first_found
-found-thrice (At i) q r = refl
-found-thrice Missing q r = refl
+found-last (Some j) i = refl
+found-last None i = refl
+
+found-thrice : (p q r : program_option.Option ℕ) → first_found (first_found p q) r ≡ first_found p (first_found q r)
+unfolding first_found
+found-thrice (Some i) q r = refl
+found-thrice None q r = refl
 
 -- ---- places that pass
 
@@ -125,20 +124,20 @@ module _ (key : ℕ → ℕ) (t : ℕ → Bool) (b : ℕ) where
   Keyed = (i : ℕ) → t i ≡ true → key i ≡ b
 
   -- next is the next place to look at, + 1; found is the first that passes among those looked at
-  pub record Walk (n next : ℕ) (found : Found) : Type 0 where
+  pub record Walk (n next : ℕ) (found : program_option.Option ℕ) : Type 0 where
     pub within : next ≤ n
-    pub bucketed : (next ≡ 0 → ⊥) → key (next - 1) ≡ b
+    pub bucketed : (i : ℕ) → next ≡ suc i → key i ≡ b
     pub left : first_found (first_below t next) found ≡ first_below t n
 
   -- the latest of the bucket is of it
-  latest-bucket : (n : ℕ) → (latest key b n ≡ 0 → ⊥) → key (latest key b n - 1) ≡ b
+  latest-bucket : (n i : ℕ) → latest key b n ≡ suc i → key i ≡ b
   unfolding latest
-  latest-bucket zero h = absurd (h refl)
-  latest-bucket (suc n) h = go (eqb (key n) b) refl (λ k. latest-bucket n k) h
+  latest-bucket zero i h = absurd (omega arith)
+  latest-bucket (suc n) i h = go (eqb (key n) b) refl (latest-bucket n i) h
     where
-      go : (e : Bool) → eqb (key n) b ≡ e → ((latest key b n ≡ 0 → ⊥) → key (latest key b n - 1) ≡ b)
-          → (◌≡◌ {A = ℕ} (elim e [ true ↦ suc n | false ↦ latest key b n ]) 0 → ⊥) → key (elim e [ true ↦ suc n | false ↦ latest key b n ] - 1) ≡ b
-      go true e r h = let z : suc n - 1 ≡ n = omega arith in ap key z ∙ eqb-true (key n) b e
+      go : (e : Bool) → eqb (key n) b ≡ e → (latest key b n ≡ suc i → key i ≡ b)
+          → ◌≡◌ {A = ℕ} (elim e [ true ↦ suc n | false ↦ latest key b n ]) (suc i) → key i ≡ b
+      go true e r h = let z : i ≡ n = omega arith in ap key z ∙ eqb-true (key n) b e
       go false e r h = r h
 
   -- what is behind it does not pass
@@ -154,55 +153,53 @@ module _ (key : ℕ → ℕ) (t : ℕ → Bool) (b : ℕ) where
           let f = eqb-false (key n) b e in
           r ∙ sym (first-skip t n (bool-split (t n) (λ h. absurd (f (keyed n h))) (λ h. h)))
 
-  pub walk-starts : Keyed → (n : ℕ) {next : ℕ} → next ≡ latest key b n → Walk n next Missing
+  pub walk-starts : Keyed → (n : ℕ) {next : ℕ} → next ≡ latest key b n → Walk n next None
   walk-starts keyed n e =
       record {
         within = rw e (latest-most key b n);
-        bucketed = rw e (latest-bucket n);
+        bucketed = λ i h. latest-bucket n i (sym e ∙ h);
         left = found-missing-right (first_below t _) ∙ ap (first_below t) e ∙ latest-skip keyed n;
       }
 
-  module _ (n next : ℕ) (found : Found) (w : Walk n next found) where
-    walk_turn : Keyed → (next ≡ 0 → ⊥) → {last : ℕ} → last ≡ latest key (key (next - 1)) (next - 1)
-        → Walk n last (first_found (found_at (t (next - 1)) (next - 1)) found)
+  module _ (n i : ℕ) (found : program_option.Option ℕ) (w : Walk n (suc i) found) where
+    walk_turn : Keyed → {last : ℕ} → last ≡ latest key (key i) i → Walk n last (first_found (found_at (t i) i) found)
     unfolding first_below
-    walk_turn keyed h {last} e =
-        let i : ℕ = next - 1 in
-        let l : last ≡ latest key b i = e ∙ ap (λ (k : ℕ). latest key k i) (w.bucketed h) in
+    walk_turn keyed {last} e =
+        let l : last ≡ latest key b i = e ∙ ap (λ (k : ℕ). latest key k i) (w.bucketed i refl) in
         let most = latest-most key b i in
-        let one : suc i ≡ next = omega arith in
-        let here : Found = first_found (found_at (t i) i) found in
+        let here : program_option.Option ℕ = first_found (found_at (t i) i) found in
         let fits = w.within in
         record {
           within = omega arith;
-          bucketed = rw l (latest-bucket i);
+          bucketed = λ j h. latest-bucket i j (sym l ∙ h);
           left =
-              ap (λ (q : Found). first_found q here) (ap (first_below t) l ∙ latest-skip keyed i)
+              ap (λ (q : program_option.Option ℕ). first_found q here) (ap (first_below t) l ∙ latest-skip keyed i)
               ∙ sym (found-thrice (first_below t i) (found_at (t i) i) found)
-              ∙ ap (λ (k : ℕ). first_found (first_below t k) found) one ∙ w.left;
+              ∙ w.left;
         }
 
     -- a place that does not pass
-    pub walk-past : Keyed → (next ≡ 0 → ⊥) → {last : ℕ} → last ≡ latest key (key (next - 1)) (next - 1) → t (next - 1) ≡ false → Walk n last found
+    pub walk-past : Keyed → {last : ℕ} → last ≡ latest key (key i) i → t i ≡ false → Walk n last found
     unfolding first_found
-    walk-past keyed h e f = rw f at (walk_turn keyed h e)
+    walk-past keyed e f = rw f at (walk_turn keyed e)
 
     -- one that passes
-    pub walk-found : Keyed → (next ≡ 0 → ⊥) → {last : ℕ} → last ≡ latest key (key (next - 1)) (next - 1) → t (next - 1) ≡ true → Walk n last (At (next - 1))
+    pub walk-found : Keyed → {last : ℕ} → last ≡ latest key (key i) i → t i ≡ true → Walk n last (Some i)
     unfolding first_found
-    walk-found keyed h e f = rw f at (walk_turn keyed h e)
+    walk-found keyed e f = rw f at (walk_turn keyed e)
 
     -- then some place below n passes
-    pub walk_any : Keyed → (next ≡ 0 → ⊥) → t (next - 1) ≡ true → true ≡ any_below t n
-    walk_any keyed h f = found-last (first_below t _) (next - 1) ∙ ap is_found (walk-found keyed h refl f).left
+    pub walk_any : Keyed → t i ≡ true → true ≡ any_below t n
+    walk_any keyed f = found-last (first_below t _) i ∙ ap is_some (walk-found keyed refl f).left
 
-    pub walk_end : next ≡ 0 → found ≡ first_below t n
-    unfolding first_found first_below
-    walk_end e = ap (λ (k : ℕ). first_found (first_below t k) found) (sym e) ∙ w.left
+  -- no place is left to look at
+  pub walk_end : (n : ℕ) (found : program_option.Option ℕ) → Walk n 0 found → found ≡ first_below t n
+  unfolding first_found first_below
+  walk_end n found w = w.left
 
 -- the walk comes nearer to the start
-pub walk-less : (key : ℕ → ℕ) (b next : ℕ) → (next ≡ 0 → ⊥) → {last : ℕ} → last ≡ latest key b (next - 1) → last < next
-walk-less key b next h e = let most = latest-most key b (next - 1) in omega arith
+pub walk-less : (key : ℕ → ℕ) (b i : ℕ) {last : ℕ} → last ≡ latest key b i → last < suc i
+walk-less key b i e = let most = latest-most key b i in omega arith
 
 -- what is sought, in the index of it
 pub keyed-for : (sc : Schema) (s : Sought) (above : ℕ) {x : Index} → x ≡ index_for s
@@ -225,11 +222,11 @@ module _ {A : Type 0} (t : A → Bool) where
       bool-split (t x) (λ e. absurd (none-ne-some x (sym (rw (e, first_of) at h)))) (λ e. rw (e, first_of) (first-append-none l m (rw (e, first_of) at h)))
 
   -- one place more
-  finds-next : (d : A) (l m : List A) (i : ℕ) → i < length l → (r : Found) → Finds d l r (first_of t m)
+  finds-next : (d : A) (l m : List A) (i : ℕ) → i < length l → (r : program_option.Option ℕ) → Finds d l r (first_of t m)
       → Finds d l (first_found r (found_at (t (get_or l i d)) i)) (first_of t (m ++ (get_or l i d ∷ [])))
   unfolding first_found found_in first_of
-  finds-next d l m i h (At j) f = record { is = sym (first-append-some m (get_or l i d ∷ []) (sym f.is)); within = f.within }
-  finds-next d l m i h Missing f = go (t (get_or l i d)) (first-append-none m (get_or l i d ∷ []) (sym f.is))
+  finds-next d l m i h (Some j) f = record { is = sym (first-append-some m (get_or l i d ∷ []) (sym f.is)); within = f.within }
+  finds-next d l m i h None f = go (t (get_or l i d)) (first-append-none m (get_or l i d ∷ []) (sym f.is))
     where
       go : {o : Option A} (b : Bool) → o ≡ elim b [ true ↦ some (get_or l i d) | false ↦ none ] → Finds d l (found_at b i) o
       go true e = record { is = sym e; within = h }
@@ -242,19 +239,14 @@ module _ {A : Type 0} (t : A → Bool) where
   finds-below d l (suc n) h =
       rw (take-suc l n d h) (finds-next d l (take n l) n h (first_below (λ (i : ℕ). t (get_or l i d)) n) (finds-below d l n (omega arith)))
 
-  found-any : (d : A) (l m : List A) (r : Found) → Finds d l r (first_of t m) → is_found r ≡ any_of t m
-  unfolding is_found
-  found-any d l m (At i) f = any_some t m (found-at f refl)
-  found-any d l m Missing f = any_none t m (found-missing f refl)
-
   module _ (d : A) (l : List A) (n : ℕ) where
     -- among those above place n
-    pub finds-first : n ≤ length l → {r : Found} → r ≡ first_below (λ (i : ℕ). t (get_or l i d)) n → Finds d l r (first_of t (take n l))
+    pub finds-first : n ≤ length l → {r : program_option.Option ℕ} → r ≡ first_below (λ (i : ℕ). t (get_or l i d)) n → Finds d l r (first_of t (take n l))
     finds-first h e = rw e (finds-below d l n h)
 
     -- among all
-    pub finds-whole : n ≡ length l → {r : Found} → r ≡ first_below (λ (i : ℕ). t (get_or l i d)) n → Finds d l r (first_of t l)
+    pub finds-whole : n ≡ length l → {r : program_option.Option ℕ} → r ≡ first_below (λ (i : ℕ). t (get_or l i d)) n → Finds d l r (first_of t l)
     finds-whole h e = rw (take_all n l (omega arith)) at (finds-first (omega arith) e)
 
     pub any-first : n ≤ length l → {r : Bool} → r ≡ any_below (λ (i : ℕ). t (get_or l i d)) n → r ≡ any_of t (take n l)
-    any-first h e = e ∙ found-any d l (take n l) _ (finds-below d l n h)
+    any-first h e = e ∙ found-any (finds-below d l n h) t (take n l) refl

@@ -10,7 +10,9 @@ use borrow.Author.Tests.{eqb-true, eqb-false}
 use lib.Dec.{eqb}
 use lib.ListN.{length, get_or, set, drop, length-append, length-set, length-replicate, drop_of_length-le, get_or-append}
 use lib.Seq.{get_or-set_same, get_or-set_other}
-use Rattle.tables.specs.Index.{buckets, index_size, bucket, path_bucket, latest, linked_at, linked, empty_index, index_cells}
+use Rattle.std.specs.Prelude as program_option
+use Rattle.std.specs.Prelude.{Some, None}
+use Rattle.tables.specs.Index.{place_number, buckets, index_size, bucket, path_bucket, latest, linked_at, linked, empty_index, index_cells}
 use Rattle.tables.specs.Paths.{front, cells_of}
 use Rattle.tables.specs.Records.{SchemaPath}
 use Rattle.tables.specs.declared.path.Path.{Path}
@@ -29,6 +31,10 @@ path-bucket-below k [] = omega arith
 path-bucket-below k (a ∷ p) = path-bucket-below (bucket k (suc a)) p
 
 -- ---- the latest row of a bucket
+
+pub place-none : (p : program_option.Option ℕ) → ((i : ℕ) → p ≡ Some i → ⊥) → place_number p ≡ 0
+place-none (Some i) h = absurd (h i refl)
+place-none None h = refl
 
 pub latest-most : (key : ℕ → ℕ) (b n : ℕ) → latest key b n ≤ n
 unfolding latest

@@ -11,14 +11,14 @@ returns-then-p-eq0 c =
     c.type_mode.ensures ∙ ap mode_number (mode-empty (schema_of c.args.schema.now) c.args.t.0 c.args.p.0 (c.args.p.1 ∷ c.args.p.2 ∷ c.args.p.3 ∷ []) c.if-p-eq0.true)
 
 pub group_mode-requires : goal.group_mode-requires
-group_mode-requires c = record { good_schema = search rules; g_in_bounds = found_within c.find_group-found.ensures c.in-At.is }
+group_mode-requires c = record { good_schema = search rules; g_in_bounds = found_within c.find_group.ensures c.in-Some.is }
 
-pub returns-in-At : goal.returns-in-At
-returns-in-At c =
+pub returns-in-Some : goal.returns-in-Some
+returns-in-Some c =
     c.group_mode.ensures
-    ∙ ap mode_number (mode-at (schema_of c.args.schema.now) c.args.t.0 c.args.p.0 (c.args.p.1 ∷ c.args.p.2 ∷ c.args.p.3 ∷ []) c.group_count-count.result c.group_count-count.ensures c.if-p-eq0.false (found-at c.find_group-found.ensures c.in-At.is))
+    ∙ ap mode_number (mode-at (schema_of c.args.schema.now) c.args.t.0 c.args.p.0 (c.args.p.1 ∷ c.args.p.2 ∷ c.args.p.3 ∷ []) c.group_count-count.result c.group_count-count.ensures c.if-p-eq0.false (found-at c.find_group.ensures c.in-Some.is))
 
-pub returns-in-Missing : goal.returns-in-Missing
-returns-in-Missing c =
-    c.type_mode-in-Missing.ensures
-    ∙ ap mode_number (mode-none (schema_of c.args.schema.now) c.args.t.0 c.args.p.0 (c.args.p.1 ∷ c.args.p.2 ∷ c.args.p.3 ∷ []) c.group_count-count.result c.group_count-count.ensures c.if-p-eq0.false (found-missing c.find_group-found.ensures c.in-Missing.is))
+pub returns-in-None : goal.returns-in-None
+returns-in-None c =
+    c.type_mode-in-None.ensures
+    ∙ ap mode_number (mode-none (schema_of c.args.schema.now) c.args.t.0 c.args.p.0 (c.args.p.1 ∷ c.args.p.2 ∷ c.args.p.3 ∷ []) c.group_count-count.result c.group_count-count.ensures c.if-p-eq0.false (found-missing c.find_group.ensures c.in-None.is))

@@ -14,11 +14,11 @@ loop-i-init c = (search rules, c.none-s.ensures ∙ files-none (schema_of c.args
 
 pub with-s-requires : goal.with-s-requires
 with-s-requires c =
-    rw c.file_number-f.ensures (each-get_d (λ (d : File). d.file < file_limit) (schema_of c.args.schema.now).files _ no_file c.requires.each (search rules))
+    rw c.file_number.ensures (each-get_d (λ (d : File). d.file < file_limit) (schema_of c.args.schema.now).files _ no_file c.requires.each (search rules))
 
 pub loop-i-preserved : goal.loop-i-preserved
 loop-i-preserved c =
-    (search rules, files-more (schema_of c.args.schema.now).files c.loop-i.i _ _ _ (search rules) (search rules) c.loop-i.invariant.1 c.file_number-f.ensures c.with-s.ensures)
+    (search rules, files-more (schema_of c.args.schema.now).files c.loop-i.i _ _ _ (search rules) (search rules) c.loop-i.invariant.1 c.file_number.ensures c.with-s.ensures)
 
 pub returns : goal.returns
 unfolding declared_files

@@ -8,6 +8,3 @@ use Rattle.schema_calls.proofs.files.declared_files.Given as goal
 
 abbrev pub invariant-loop-i : goal.invariant-loop-i
 invariant-loop-i l = (l.i ≤ length (schema_of l.schema).files) × (set_is l.s ≡ files_of (drop l.i (schema_of l.schema).files))
-
-abbrev pub decreases-loop-i : goal.decreases-loop-i
-decreases-loop-i l = l.i

@@ -1,5 +1,4 @@
 use mathlib.Core.Path.{refl, sym, ◌∙◌}
-use borrow.Author.Tests.{eq-eqb, ne_eqb}
 use Rattle.tables.specs.SchemaTable.{schema_of, no_file}
 use Rattle.schema_calls.specs.Calls.{file_matches}
 use Rattle.tables.proofs.Laws.Scans.{first_more}
@@ -10,15 +9,15 @@ use Rattle.schema_calls.proofs.files.find_file.Goals as goal
 pub loop-i-init : goal.loop-i-init
 loop-i-init c = refl
 
-pub returns-then-g-f : goal.returns-then-g-f
-returns-then-g-f c =
+pub returns-then-eq : goal.returns-then-eq
+returns-then-eq c =
     finds-at (file_matches c.args.f.0) no_file (schema_of c.args.schema.now).files c.loop-i.i (search rules)
-    (eq-eqb _ _ (sym c.file_number-g.ensures ∙ c.if-g-f.true)) c.loop-i.invariant
+    (rw c.file_number.ensures at (sym c.eq.ensures ∙ c.if-eq.true)) c.loop-i.invariant
 
 pub loop-i-preserved : goal.loop-i-preserved
 loop-i-preserved c =
     first_more (file_matches c.args.f.0) (schema_of c.args.schema.now).files c.loop-i.i no_file (search rules)
-    (ne_eqb _ _ (λ e. c.if-g-f.false (c.file_number-g.ensures ∙ e))) ∙ c.loop-i.invariant
+    (rw c.file_number.ensures at (sym c.eq.ensures ∙ c.if-eq.false)) ∙ c.loop-i.invariant
 
 pub returns : goal.returns
 returns c =

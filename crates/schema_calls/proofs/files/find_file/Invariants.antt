@@ -8,6 +8,3 @@ use Rattle.schema_calls.proofs.files.find_file.Given as goal
 
 abbrev pub invariant-loop-i : goal.invariant-loop-i
 invariant-loop-i l = first_of (file_matches l.f.0) (drop l.i (schema_of l.schema).files) ≡ first_of (file_matches l.f.0) (schema_of l.schema).files
-
-abbrev pub decreases-loop-i : goal.decreases-loop-i
-decreases-loop-i l = l.count - l.i

@@ -8,6 +8,3 @@ use Rattle.schema_calls.proofs.files.least_version.Given as goal
 
 abbrev pub invariant-loop-i : goal.invariant-loop-i
 invariant-loop-i l = least_from (set_is l.s) l.least (drop l.i (schema_of l.schema).files) ≡ least_version (schema_of l.schema) (set_is l.s) l.v
-
-abbrev pub decreases-loop-i : goal.decreases-loop-i
-decreases-loop-i l = l.count - l.i

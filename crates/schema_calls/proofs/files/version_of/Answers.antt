@@ -6,12 +6,12 @@ use borrow.Author.Rules.{rules}
 use Rattle.schema_calls.proofs.files.version_of.Goals as goal
 
 pub file_version-requires : goal.file_version-requires
-file_version-requires c = record { good_schema = search rules; i_in_bounds = found_within c.find_file-found.ensures c.in-At.is }
+file_version-requires c = record { good_schema = search rules; i_in_bounds = found_within c.find_file.ensures c.in-Some.is }
 
-pub returns-in-At : goal.returns-in-At
-returns-in-At c =
-    c.file_version.ensures ∙ version-at (schema_of c.args.schema.now) c.args.f.0 (found-at c.find_file-found.ensures c.in-At.is)
+pub returns-in-Some : goal.returns-in-Some
+returns-in-Some c =
+    c.file_version.ensures ∙ version-at (schema_of c.args.schema.now) c.args.f.0 (found-at c.find_file.ensures c.in-Some.is)
 
-pub returns-in-Missing : goal.returns-in-Missing
-returns-in-Missing c =
-    version-none (schema_of c.args.schema.now) c.args.f.0 (found-missing c.find_file-found.ensures c.in-Missing.is)
+pub returns-in-None : goal.returns-in-None
+returns-in-None c =
+    version-none (schema_of c.args.schema.now) c.args.f.0 (found-missing c.find_file.ensures c.in-None.is)

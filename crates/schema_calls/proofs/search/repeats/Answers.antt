@@ -1,8 +1,8 @@
 use mathlib.Core.Path.{sym, ap, ◌∙◌}
-use Prim.Native.Nat.{◌-◌}
+use Rattle.std.specs.Prelude.{None, is_some}
 use Rattle.tables.specs.SchemaTable.{schema_of, key_in}
-use Rattle.schema_calls.specs.Search.{alike_at, is_found}
-use Rattle.schema_calls.specs.declared.calls.Found.TheVariants.{Missing}
+use Rattle.tables.proofs.Laws.Index.{place-none}
+use Rattle.schema_calls.specs.Search.{alike_at}
 use Rattle.schema_calls.proofs.Laws.Search.{walk-starts, walk-past, walk_any, walk_end, walk-less, key-of-alike}
 use Rattle.schema_calls.proofs.search.repeats.Goals as goal
 
@@ -16,25 +16,23 @@ pub returns-then-alike : goal.returns-then-alike
 returns-then-alike c =
     let sc = schema_of c.args.schema.now in
     let key = key_in sc c.args.x in
-    walk_any key (alike_at sc c.args.x c.args.i) (key c.args.i) c.args.i c.loop-next.next Missing c.loop-next.invariant (key-of-alike sc c.args.x c.args.i) c.loop-next-test.true
+    walk_any key (alike_at sc c.args.x c.args.i) (key c.args.i) c.args.i c.in-Some.k None (rw c.in-Some.is at c.loop-next.invariant) (key-of-alike sc c.args.x c.args.i)
     (sym c.alike.ensures ∙ c.if-alike.true)
 
 pub loop-next-smaller : goal.loop-next-smaller
 loop-next-smaller c =
     let key = key_in (schema_of c.args.schema.now) c.args.x in
-    let next = c.loop-next.next in
-    walk-less key (key (next - 1)) next c.loop-next-test.true c.latest_above-next-in-loop-next.ensures
+    rw c.in-Some.is (walk-less key (key c.in-Some.k) c.in-Some.k c.latest_above-next-in-Some.ensures)
 
 pub loop-next-preserved : goal.loop-next-preserved
 loop-next-preserved c =
     let sc = schema_of c.args.schema.now in
     let key = key_in sc c.args.x in
-    walk-past key (alike_at sc c.args.x c.args.i) (key c.args.i) c.args.i c.loop-next.next Missing c.loop-next.invariant (key-of-alike sc c.args.x c.args.i) c.loop-next-test.true
-    c.latest_above-next-in-loop-next.ensures (sym c.alike.ensures ∙ c.if-alike.false)
+    walk-past key (alike_at sc c.args.x c.args.i) (key c.args.i) c.args.i c.in-Some.k None (rw c.in-Some.is at c.loop-next.invariant) (key-of-alike sc c.args.x c.args.i)
+    c.latest_above-next-in-Some.ensures (sym c.alike.ensures ∙ c.if-alike.false)
 
 pub returns : goal.returns
-unfolding is_found
 returns c =
     let sc = schema_of c.args.schema.now in
     let key = key_in sc c.args.x in
-    ap is_found (walk_end key (alike_at sc c.args.x c.args.i) (key c.args.i) c.args.i c.loop-next.next Missing c.loop-next.invariant c.loop-next-test.false)
+    ap is_some (walk_end key (alike_at sc c.args.x c.args.i) (key c.args.i) c.args.i None (rw (place-none c.loop-next.next c.in_default.not-Some) at c.loop-next.invariant))
