@@ -15,14 +15,14 @@ use Rattle.tables.specs.Limits.{type_limit, group_limit, row_limit, file_limit, 
 use Rattle.tables.specs.Lists.{all_of}
 use Rattle.tables.specs.Paths.{front, path_cells}
 use Rattle.tables.specs.Records.{Group, SubElement}
-use Rattle.tables.specs.SchemaTable.{schema_size, types_at, groups_at, rows_at, files_at, group_index_at, bool_number, bool_from, type_cells, cells_type, group_cells, cells_group, sub_element_cells, cells_sub_element, file_cells, cells_file, encode_schema, schema_of, GroupFits, RowFits, SizedSchema}
+use Rattle.tables.specs.SchemaTable.{schema_size, types_at, groups_at, rows_at, files_at, group_index_at, bool_number, bool_from, mult_from, type_cells, cells_type, group_cells, cells_group, sub_element_cells, cells_sub_element, file_cells, cells_file, encode_schema, schema_of, GroupFits, RowFits, SizedSchema}
 use Rattle.tables.proofs.Laws.Scans.{all_head, all_tail}
 use Rattle.table_test.specs.RowTests.{path_tests, path_passes}
 use Rattle.table_test.specs.AreaTest.{row_passes, rows_in}
 use Rattle.table_test.specs.SchemaTest.{files_ascend, schema_tests, is_schema_table, TypeIn, GroupIn, RowIn, FilesIn, TestedSchema}
 use Rattle.table_test.specs.declared.area_test.Area.TheVariants.{Types, Groups, SubElements, Files}
 use Rattle.tables.proofs.Laws.Cells.{length-rows_of}
-use Rattle.tables.proofs.Laws.SchemaTable.{length_front, with-indexes, schema-cells, wide_type, wide-group, wide_row, wide-file, group-cells, row-cells, type-cells}
+use Rattle.tables.proofs.Laws.SchemaTable.{length_front, with-indexes, schema-cells, wide_type, wide-group, wide_row, wide-file, group-cells, row-cells, type-cells, mult-again}
 use Rattle.table_test.proofs.Laws.RowsTest.{every-at, cells-from, row_is}
 use Rattle.table_test.proofs.Laws.AreaTest.{row-at, row_count_lem, row-tested, rows-between, area-parts, area-again, area-each}
 use Rattle.table_test.proofs.Laws.IndexTest.{schema-read, indexes}
@@ -117,7 +117,7 @@ row-again : (r : List ℕ) → length r ≡ 9 → row_passes SubElements r ≡ t
 row-again r e p =
     let m = leb-true (get_or r 7 0) 2 (row-tested SubElements r p 4) in
     row-cells (get_or r 0 0) (get_or r 1 0) (get_or r 2 0) (get_or r 3 0) (get_or r 4 0) (front (get_or r 1 0 ∷ get_or r 2 0 ∷ get_or r 3 0 ∷ get_or r 4 0 ∷ []))
-    (path-again (get_or r 1 0) (get_or r 2 0) (get_or r 3 0) (get_or r 4 0) (row-tested SubElements r p 1)) (get_or r 5 0) (get_or r 6 0) (get_or r 7 0) (get_or r 8 0) (omega arith)
+    (path-again (get_or r 1 0) (get_or r 2 0) (get_or r 3 0) (get_or r 4 0) (row-tested SubElements r p 1)) (get_or r 5 0) (get_or r 6 0) (mult_from (get_or r 7 0)) (get_or r 8 0) (sym (mult-again (get_or r 7 0) (omega arith)))
     ∙ sym (row_is r 9 e)
 
 group-in : (r : List ℕ) → length r ≡ 6 → row_passes Groups r ≡ true → GroupIn (cells_group r)

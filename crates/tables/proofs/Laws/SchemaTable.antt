@@ -48,6 +48,13 @@ mult-back at_most_one = refl
 mult-back one = refl
 mult-back any = refl
 
+pub mult-again : (n : ℕ) → n < length mults → mult_number (mult_from n) ≡ n
+unfolding mult_number
+mult-again zero h = refl
+mult-again (suc zero) h = refl
+mult-again (suc (suc zero)) h = refl
+mult-again (suc (suc (suc n))) h = absurd (omega arith)
+
 -- a truth as the number of its cell
 pub bool_cell : (b : Bool) → bool_byte b ≡ bool_number b
 unfolding bool_number
