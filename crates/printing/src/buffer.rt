@@ -45,10 +45,8 @@ pub fn append_bytes(out: &mut [u8], w: Written, text: &[u8]) -> Written
     ensures { Appends (buffer_is w out.old) text.now (buffer_is result out.new) }
 {
     let mut k = w;
-    let mut i: usize = 0;
-    while i < text.len() {
-        k = append_byte(out, k, text[i]);
-        i += 1;
+    for b in text {
+        k = append_byte(out, k, *b);
     }
     k
 }
@@ -58,9 +56,9 @@ fn digit_byte(d: u64) -> u8
     ensures { result ≡ digit_byte d }
 {
     if d < 10 {
-        return 48 + d as u8;
+        return b'0' + d as u8;
     }
-    97 + (d - 10) as u8
+    b'a' + (d - 10) as u8
 }
 
 fn append_digits(out: &mut [u8], w: Written, n: u64, radix: u64) -> Written

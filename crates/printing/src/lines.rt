@@ -1,9 +1,8 @@
 // One line of a tree.
-ghost use Rattle.std.specs.Prelude.{List, [], ◌∷◌, ◌++◌, ◌≡◌, ℕ, suc, ◌+◌, ◌/◌, ◌%◌, ◌<◌, ◌≤◌, length};
+ghost use Rattle.std.specs.Prelude.{List, [], ◌∷◌, ◌++◌, ◌≡◌, ℕ, suc, ◌<◌, ◌≤◌, length};
 ghost use Rattle.tables.specs.Bytes.{bytes};
-ghost use Rattle.tables.specs.Limits.{string_limit};
 ghost use Rattle.tables.specs.Records.{Fixed, text_of};
-ghost use Rattle.tables.specs.Texts.{bytes_at, text_from};
+ghost use Rattle.tables.specs.Texts.{bytes_at, place_of, place_in, stored_is, stored_in};
 ghost use Rattle.tables.specs.ElementsTable.{elements_of};
 ghost use Rattle.tables.specs.ModelTable.{count_of, model_of};
 ghost use Rattle.state_test.specs.StateTest.{fixed_in};
@@ -12,10 +11,10 @@ ghost use Rattle.printing.specs.Buffers.{buffer_is, Appends};
 ghost use Rattle.printing.specs.TreeLines.{value_end, Readable};
 
 use crate::buffer::{Written, append_byte, append_bytes, append_number};
-use tables::elements::{element_depth, element_name, text_kind, text_value};
-use tables::limits::STRING_LIMIT;
+use tables::elements::{element_depth, element_name, text_at};
 use tables::model::set_of;
 use tables::numbers::Element;
+use tables::text::{Place, StoredText};
 
 // The last two fields of a C line.
 
@@ -29,44 +28,36 @@ fn append_number_value(out: &mut [u8], w: Written, letter: u8, n: u64, radix: u6
     append_number(out, l, n, radix, b'\n')
 }
 
-// A string's value is its place * STRING_LIMIT + its length.
-fn append_string_value(deck: &[u8], out: &mut [u8], w: Written, value: u64) -> Written
-    requires { value / string_limit + value % string_limit ≤ length deck.now }
-    ensures { Appends (buffer_is w out.old) ((115 ∷ 44 ∷ []) ++ (bytes_at deck.now (record { start = value / string_limit; size = value % string_limit }) ++ (10 ∷ []))) (buffer_is result out.new) }
+fn append_string_value(deck: &[u8], out: &mut [u8], w: Written, p: Place) -> Written
+    requires { place_in deck.now p }
+    ensures { Appends (buffer_is w out.old) ((115 ∷ 44 ∷ []) ++ (bytes_at deck.now (place_of p) ++ (10 ∷ []))) (buffer_is result out.new) }
 {
-    let start = (value / STRING_LIMIT) as usize;
-    let end = start + (value % STRING_LIMIT) as usize;
+    let start = p.start;
+    let end = start + p.size;
     let k = append_bytes(out, w, b"s,");
     let l = append_bytes(out, k, &deck[start..end]);
     append_byte(out, l, b'\n')
 }
 
-fn append_value(deck: &[u8], out: &mut [u8], w: Written, kind: u64, value: u64) -> Written
-    requires { kind ≡ 1 → value / string_limit + value % string_limit ≤ length deck.now }
-    ensures { (x : Fixed) → x.deck ≡ deck.now → Appends (buffer_is w out.old) (value_end x (text_from kind value)) (buffer_is result out.new) }
+fn append_value(deck: &[u8], out: &mut [u8], w: Written, t: StoredText) -> Written
+    requires { stored_in deck.now t }
+    ensures { (x : Fixed) → x.deck ≡ deck.now → Appends (buffer_is w out.old) (value_end x (stored_is t)) (buffer_is result out.new) }
 {
-    match kind {
-        0 => append_number_value(out, w, b'e', value, 10),
-        1 => append_string_value(deck, out, w, value),
-        2 => append_number_value(out, w, b'u', value, 10),
-        _ => append_number_value(out, w, b'f', value, 16),
+    match t {
+        StoredText::Number(n) => append_number_value(out, w, b'e', n, 10),
+        StoredText::Str(p) => append_string_value(deck, out, w, p),
+        StoredText::Whole(n) => append_number_value(out, w, b'u', n, 10),
+        StoredText::Float(bits) => append_number_value(out, w, b'f', bits, 16),
     }
 }
 
-fn append_text(
-    deck: &[u8],
-    out: &mut [u8],
-    w: Written,
-    depth: u64,
-    kind: u64,
-    value: u64,
-) -> Written
-    requires { kind ≡ 1 → value / string_limit + value % string_limit ≤ length deck.now }
-    ensures { (x : Fixed) → x.deck ≡ deck.now → Appends (buffer_is w out.old) (text_line x depth (text_from kind value)) (buffer_is result out.new) }
+fn append_text(deck: &[u8], out: &mut [u8], w: Written, depth: u64, t: StoredText) -> Written
+    requires { stored_in deck.now t }
+    ensures { (x : Fixed) → x.deck ≡ deck.now → Appends (buffer_is w out.old) (text_line x depth (stored_is t)) (buffer_is result out.new) }
 {
     let k = append_bytes(out, w, b"C,");
     let l = append_number(out, k, depth, 10, b',');
-    append_value(deck, out, l, kind, value)
+    append_value(deck, out, l, t)
 }
 
 pub fn append_text_line(
@@ -82,9 +73,7 @@ pub fn append_text_line(
     requires t_in_bounds { t < length (elements_of elements.now).texts }
     ensures { (schema : List ℕ) → Appends (buffer_is w out.old) (text_line (fixed_in deck.now schema elements.now) depth (text_of (fixed_in deck.now schema elements.now) t)) (buffer_is result out.new) }
 {
-    let kind = text_kind(elements, t);
-    let value = text_value(elements, t);
-    append_text(deck, out, w, depth, kind, value)
+    append_text(deck, out, w, depth, text_at(elements, t))
 }
 
 fn append_row(out: &mut [u8], w: Written, depth: u64, name: u64, set: u64) -> Written

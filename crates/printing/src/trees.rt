@@ -56,13 +56,10 @@ fn append_items(
     ensures { (schema : List ℕ) → Appends (buffer_is w out.old) (item_lines (element_lines left (fixed_in deck.now schema elements.now) (model_of model.now)) (fixed_in deck.now schema elements.now) (suc (depth_of (fixed_in deck.now schema elements.now) e)) (list_of (model_of model.now) e)) (buffer_is result out.new) }
 {
     let depth = element_depth(elements, Element(e)) + 1;
-    let n = list_length(model, Element(e));
     let mut k = w;
-    let mut i: usize = 0;
-    while i < n {
+    for i in 0..list_length(model, Element(e)) {
         let a = item_at(model, Element(e), i);
         k = append_item(deck, elements, model, out, k, a, depth, left);
-        i += 1;
     }
     k
 }
@@ -144,16 +141,11 @@ fn append_waiting(
     ensures { (schema : List ℕ) → Appends (buffer_is w out.old) (waiting_lines (fixed_in deck.now schema elements.now) (model_of model.now) (keep (waits (model_of model.now)) (elements_of elements.now).trees)) (buffer_is result out.new) }
 {
     let loaded = set_of(model, Element(0));
-    let n = tree_count(elements);
     let mut k = w;
-    let mut t: usize = 0;
-    while t < n {
-        if loaded.holds(tree_file(elements, t)) {
-            t += 1;
-            continue;
+    for t in 0..tree_count(elements) {
+        if !loaded.holds(tree_file(elements, t)) {
+            k = append_tree(deck, elements, model, out, k, t);
         }
-        k = append_tree(deck, elements, model, out, k, t);
-        t += 1;
     }
     k
 }

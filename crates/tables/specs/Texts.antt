@@ -97,6 +97,13 @@ text_in deck (Str p) = place_in deck p
 text_in deck (Whole n) = Unit {0}
 text_in deck (FloatValue x) = Unit {0}
 
+-- a stored string stands in the deck
+abbrev pub stored_in : List ℕ → stored.StoredText → Type 0
+stored_in deck (StoredNumber n) = Unit {0}
+stored_in deck (StoredStr p) = place_in deck p
+stored_in deck (StoredWhole n) = Unit {0}
+stored_in deck (StoredFloat b) = Unit {0}
+
 unfoldable pub same_values : List ℕ → code_text.Text → code_text.Text → Bool
 same_values deck (Number a) (Number b) = eqb a b
 same_values deck (Number a) (Str q) = false

@@ -1,23 +1,18 @@
-use native.Mathlib.Omega.{arith}
 use Rattle.printing.proofs.Laws.Buffers.{reads}
 use Rattle.printing.proofs.Laws.Lines.{value-enum, value-string, value-whole, value-float}
 use Rattle.printing.proofs.lines.append_value.Goals as goal
 
 pub append_string_value-requires : goal.append_string_value-requires
-append_string_value-requires c = c.requires c.in-1.is
+append_string_value-requires c = rw c.in-Str.is at c.requires
 
-pub returns-in-0 : goal.returns-in-0
-returns-in-0 c = λ x d. reads (value-enum x _ _ c.in-0.is) c.append_number_value.ensures
+pub returns-in-Number : goal.returns-in-Number
+returns-in-Number c = λ x d. rw c.in-Number.is (reads (value-enum x _) c.append_number_value.ensures)
 
-pub returns-in-1 : goal.returns-in-1
-returns-in-1 c = λ x d. reads (value-string x _ _ _ d c.in-1.is) c.append_string_value.ensures
+pub returns-in-Str : goal.returns-in-Str
+returns-in-Str c = λ x d. rw c.in-Str.is (reads (value-string x _ _ d) c.append_string_value.ensures)
 
-pub returns-in-2 : goal.returns-in-2
-returns-in-2 c = λ x d. reads (value-whole x _ _ c.in-2.is) c.append_number_value-in-2.ensures
+pub returns-in-Whole : goal.returns-in-Whole
+returns-in-Whole c = λ x d. rw c.in-Whole.is (reads (value-whole x _) c.append_number_value-in-Whole.ensures)
 
-pub returns-in_default : goal.returns-in_default
-returns-in_default c =
-    λ x d.
-    reads
-    (value-float x _ _ (λ e. omega arith) (λ e. omega arith) (λ e. omega arith))
-    c.append_number_value-in_default.ensures
+pub returns-in-Float : goal.returns-in-Float
+returns-in-Float c = λ x d. rw c.in-Float.is (reads (value-float x _) c.append_number_value-in-Float.ensures)
