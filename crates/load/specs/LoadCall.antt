@@ -1,13 +1,13 @@
 -- Document 01, "What each operation refuses": load as a call on lent tables. Assumes nothing.
-use Rattle.std.specs.Prelude.{Bool, true, false, ◌&&◌, List, [], ◌≡◌, ℕ, eqb, length, replicate}
+use Rattle.std.specs.Prelude.{Result, Ok, Err, Bool, true, false, ◌&&◌, List, [], ◌≡◌, ℕ, eqb, length, replicate}
 use Rattle.tables.specs.Records.{Fixed, State}
 use Rattle.tables.specs.ElementsTable.{elements_size, elements_of, GoodElements, encode_elements}
 use Rattle.tables.specs.LogTable.{log_size, encode_log}
 use Rattle.tables.specs.ModelTable.{model_size, model_of, GoodModel, encode_model}
 use Rattle.tables.specs.SchemaTable.{schema_size, schema_of, GoodSchema, encode_schema}
 use Rattle.deck.specs.Load.{Load, loaded, refused_at, load}
-use Rattle.load.specs.declared.load.Answer.{Answer}
-use Rattle.load.specs.declared.load.Answer.TheVariants.{Loaded, Refused}
+use Rattle.load.specs.Lines.{refusal_number}
+use Rattle.load.specs.declared.refusals.LoadError.{LoadError}
 
 -- ---- the tables together
 
@@ -43,6 +43,11 @@ sizes_fit t =
 
 -- ---- the call
 
+-- what a load answers: taken, or the refusal's number and the line's
+pub data Answer : Type 0 where
+  Loaded : Answer
+  Refused : ℕ → ℕ → Answer
+
 -- what a load answers and leaves
 pub record LoadResult : Type 0 where
   pub answer : Answer
@@ -64,15 +69,19 @@ load_call deck t =
       | false ↦ record { answer = Refused 0 0; tables = zeroed t }
     ]
 
--- ---- what the reading of the lines answers
+-- ---- what the program answers
+
+unfoldable pub load_answer : Result (Unit {0}) LoadError → Answer
+load_answer (Ok u) = Loaded
+load_answer (Err e) = Refused (refusal_number e.refusal) e.line
 
 -- an answer, with the tables, as the rules have it; of the tables after a refusal it says nothing: the call clears all tables then
-unfoldable pub answer_is : Answer → List ℕ → List ℕ → List ℕ → List ℕ → Load
-answer_is Loaded deck schema elements model =
+unfoldable pub answer_is : Result (Unit {0}) LoadError → List ℕ → List ℕ → List ℕ → List ℕ → Load
+answer_is (Ok u) deck schema elements model =
     loaded (record { deck = deck; schema = schema_of schema; elements = elements_of elements }) (record { model = model_of model; log = [] })
-answer_is (Refused n line) deck schema elements model = refused_at n line
+answer_is (Err e) deck schema elements model = refused_at (refusal_number e.refusal) e.line
 
-pub record Loads (r : Answer) (deck schema elements model : List ℕ) (o : Load) : Type 0 where
+pub record Loads (r : Result (Unit {0}) LoadError) (deck schema elements model : List ℕ) (o : Load) : Type 0 where
   pub is : answer_is r deck schema elements model ≡ o
   pub good_schema : GoodSchema schema
   pub good_elements : GoodElements elements

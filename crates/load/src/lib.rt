@@ -3,5 +3,6 @@
 
 pub mod load;
 mod progress;
+pub mod refusals;
 mod schema_lines;
 mod tree_lines;

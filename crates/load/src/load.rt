@@ -7,10 +7,12 @@ ghost use Rattle.tables.specs.ModelTable.{HoldsModel};
 ghost use Rattle.tables.specs.SchemaTable.{HoldsSchema};
 ghost use Rattle.deck.specs.Answers.{line_is, line_fits};
 ghost use Rattle.deck.specs.Load.{nothing, finish, load};
+ghost use Rattle.load.specs.declared.progress.Kind.TheVariants.{T};
 ghost use Rattle.load.specs.Lines.{open_limit, loading_of, line_result, GoodLoading, StepResult};
-ghost use Rattle.load.specs.LoadCall.{tables_of, load_result, load_into, load_call, sizes_fit, zeros, answer_is, Loads};
+ghost use Rattle.load.specs.LoadCall.{tables_of, load_answer, load_result, load_into, load_call, sizes_fit, zeros, answer_is, Loads};
 
-use crate::progress::{FORM, LIMIT, OPEN_LIMIT, Progress, Step, TREE_RULE, Verdict, refuse};
+use crate::progress::{Kind, OPEN_LIMIT, Progress};
+use crate::refusals::{LoadError, Refusal};
 use crate::schema_lines::{load_f, load_g, load_s, load_t};
 use crate::tree_lines::{load_b, load_c, load_e, load_m};
 use deck::lines::Line;
@@ -21,12 +23,6 @@ use tables::log::LOG_SIZE;
 use tables::model::{MODEL_SIZE, clear};
 use tables::schema::SCHEMA_SIZE;
 
-#[derive(Clone, Copy)]
-pub enum Answer {
-    Loaded,
-    Refused(u64, u64),
-}
-
 // A line that was read, stored in the tables.
 fn load_line(
     schema: &mut [u64],
@@ -34,10 +30,10 @@ fn load_line(
     model: &mut [u64],
     p: Progress,
     line: Line,
-) -> Step
+) -> Result<Progress, Refusal>
     requires good_loading { GoodLoading p schema.old elements.old model.old }
     requires line_fits { line_fits line }
-    ensures { StepResult result schema.new elements.new model.new (line_result (loading_of p schema.old elements.old model.old) (line_is line)) }
+    ensures { StepResult p result schema.new elements.new model.new (line_result (loading_of p schema.old elements.old model.old) (line_is line)) }
 {
     match line {
         Line::T(c) => load_t(schema, p, c),
@@ -48,39 +44,43 @@ fn load_line(
         Line::B(f) => load_b(schema, elements, model, p, f),
         Line::E(c) => load_e(schema, elements, model, p, c),
         Line::C(c) => load_c(schema, elements, model, p, c),
-        Line::Bad => refuse(p, FORM),
+        Line::Bad => Err(Refusal::Form),
     }
 }
 
 // Before the first line.
 fn start() -> Progress
-    ensures { result ≡ record { latest = 0; seen = false; due = false; depth = 0; above = replicate open_limit 0 } }
+    ensures { result ≡ record { latest = T; seen = false; due = false; depth = 0; above = replicate open_limit 0 } }
 {
-    let above = [0usize; OPEN_LIMIT];
     Progress {
-        latest: 0,
+        latest: Kind::T,
         seen: false,
         due: false,
         depth: 0,
-        above,
+        above: [0usize; OPEN_LIMIT],
     }
 }
 
 // Behind the last line, n lines read.
-fn finish(p: Progress, n: u64) -> Answer
+fn finish(p: Progress, n: u64) -> Result<(), LoadError>
     ensures { (deck schema elements model : List ℕ) → answer_is result deck schema elements model ≡ finish deck n (loading_of p schema elements model) }
 {
-    if !p.seen {
-        return Answer::Refused(TREE_RULE, n);
+    if !p.seen || p.due {
+        return Err(LoadError {
+            refusal: Refusal::TreeRule,
+            line: n,
+        });
     }
-    if p.due {
-        return Answer::Refused(TREE_RULE, n);
-    }
-    Answer::Loaded
+    Ok(())
 }
 
 // All lines of the deck, into empty tables.
-fn read_lines(deck: &[u8], schema: &mut [u64], elements: &mut [u64], model: &mut [u64]) -> Answer
+fn read_lines(
+    deck: &[u8],
+    schema: &mut [u64],
+    elements: &mut [u64],
+    model: &mut [u64],
+) -> Result<(), LoadError>
     requires deck_len_bound { length deck.now ≤ deck_limit }
     requires holds_schema { HoldsSchema schema.old nothing.schema }
     requires holds_elements { HoldsElements elements.old nothing.elements }
@@ -93,14 +93,15 @@ fn read_lines(deck: &[u8], schema: &mut [u64], elements: &mut [u64], model: &mut
     while at < deck.len() {
         let number = n + 1;
         let NextLine::Whole(line, behind) = line_from(deck, at) else {
-            return Answer::Refused(FORM, number);
+            return Err(LoadError {
+                refusal: Refusal::Form,
+                line: number,
+            });
         };
-        let s = load_line(schema, elements, model, p, line);
-        let v = s.verdict;
-        if let Verdict::Refused(r) = v {
-            return Answer::Refused(r, number);
-        }
-        p = s.progress;
+        p = load_line(schema, elements, model, p, line).map_err(|refusal| LoadError {
+            refusal,
+            line: number,
+        })?;
         n = number;
         at = behind;
     }
@@ -134,27 +135,40 @@ fn clear_all(schema: &mut [u64], elements: &mut [u64], model: &mut [u64])
 }
 
 // A deck of any length, into empty tables.
-fn load_deck(deck: &[u8], schema: &mut [u64], elements: &mut [u64], model: &mut [u64]) -> Answer
+fn load_deck(
+    deck: &[u8],
+    schema: &mut [u64],
+    elements: &mut [u64],
+    model: &mut [u64],
+) -> Result<(), LoadError>
     requires holds_schema { HoldsSchema schema.old nothing.schema }
     requires holds_elements { HoldsElements elements.old nothing.elements }
     requires holds_model { HoldsModel model.old nothing.model }
     ensures { Loads result deck.now schema.new elements.new model.new (load deck.now) }
 {
     if DECK_LIMIT < deck.len() {
-        return Answer::Refused(LIMIT, 0);
+        return Err(LoadError {
+            refusal: Refusal::Limit,
+            line: 0,
+        });
     }
     read_lines(deck, schema, elements, model)
 }
 
 // The deck into empty tables, which are empty again where it is refused.
-fn load_empty(deck: &[u8], schema: &mut [u64], elements: &mut [u64], model: &mut [u64]) -> Answer
+fn load_empty(
+    deck: &[u8],
+    schema: &mut [u64],
+    elements: &mut [u64],
+    model: &mut [u64],
+) -> Result<(), LoadError>
     requires holds_schema { HoldsSchema schema.old nothing.schema }
     requires holds_elements { HoldsElements elements.old nothing.elements }
     requires holds_model { HoldsModel model.old nothing.model }
-    ensures { (log : List ℕ) → log ≡ zeros log → log ≡ encode_log [] → load_result result schema.new elements.new model.new log ≡ load_into (tables_of schema.old elements.old model.old log) (load deck.now) }
+    ensures { (log : List ℕ) → log ≡ zeros log → log ≡ encode_log [] → load_result (load_answer result) schema.new elements.new model.new log ≡ load_into (tables_of schema.old elements.old model.old log) (load deck.now) }
 {
     let r = load_deck(deck, schema, elements, model);
-    if let Answer::Refused(_, _) = r {
+    if r.is_err() {
         clear_all(schema, elements, model);
     }
     r
@@ -167,14 +181,17 @@ pub fn load(
     elements: &mut [u64],
     model: &mut [u64],
     log: &mut [u64],
-) -> Answer
-    ensures { load_result result schema.new elements.new model.new log.new ≡ load_call deck.now (tables_of schema.old elements.old model.old log.old) }
+) -> Result<(), LoadError>
+    ensures { load_result (load_answer result) schema.new elements.new model.new log.new ≡ load_call deck.now (tables_of schema.old elements.old model.old log.old) }
 {
     let fits = sizes_fit(schema, elements, model, log);
     clear_all(schema, elements, model);
     clear(log);
     if !fits {
-        return Answer::Refused(0, 0);
+        return Err(LoadError {
+            refusal: Refusal::WrongSize,
+            line: 0,
+        });
     }
     load_empty(deck, schema, elements, model)
 }

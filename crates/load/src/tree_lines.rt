@@ -15,9 +15,8 @@ ghost use Rattle.deck.specs.Load.{Loading, load_m, may_wait, load_b, owner, root
 ghost use Rattle.load.specs.Lines.{loading_of, open_limit, GoodLoading, StepResult};
 ghost use Rattle.load.specs.declared.progress.Progress.{Progress};
 
-use crate::progress::{
-    FORM, KIND_B, KIND_M, LIMIT, Progress, SCHEMA_RULE, Step, TREE_RULE, refuse, take_line,
-};
+use crate::progress::{Kind, Progress};
+use crate::refusals::Refusal;
 use deck::lines::{ElementCells, TextCells};
 use schema_calls::calls::{Found, row_of_name};
 use schema_calls::files::{declared_files, declares_file};
@@ -35,30 +34,29 @@ use tables::numbers::{Element, FileNumber, Name, TypeNumber};
 use tables::schema::{row_child, type_mode};
 
 // After an M or B line: a root is due, and nothing is open.
-fn open_tree(p: Progress, kind: u64, seen: bool) -> Progress
+fn open_tree(p: Progress, kind: Kind, seen: bool) -> Progress
     ensures { result ≡ record { latest = kind; seen = seen; due = true; depth = 0; above = p.above } }
 {
-    let above = p.above;
     Progress {
         latest: kind,
         seen,
         due: true,
         depth: 0,
-        above,
+        ..p
     }
 }
 
 // `M`: one M tree.
-pub fn load_m(p: Progress) -> Step
-    ensures { (schema elements model : List ℕ) → GoodLoading p schema elements model → StepResult result schema elements model (load_m (loading_of p schema elements model)) }
+pub fn load_m(p: Progress) -> Result<Progress, Refusal>
+    ensures { (schema elements model : List ℕ) → GoodLoading p schema elements model → StepResult p result schema elements model (load_m (loading_of p schema elements model)) }
 {
-    if KIND_M < p.latest {
-        return refuse(p, FORM);
+    if Kind::M < p.latest {
+        return Err(Refusal::Form);
     }
-    if KIND_M <= p.latest {
-        return refuse(p, TREE_RULE);
+    if p.latest == Kind::M {
+        return Err(Refusal::TreeRule);
     }
-    take_line(open_tree(p, KIND_M, true))
+    Ok(open_tree(p, Kind::M, true))
 }
 
 // The root's set; none where there is no root.
@@ -78,13 +76,11 @@ fn has_tree(elements: &[u64], f: FileNumber) -> bool
     ensures { result ≡ any_of (λ (t : Tree). eqb t.file f.0) (elements_of elements.now).trees }
 {
     let n = tree_count(elements);
-    let mut i = 0;
-    while i < n {
+    for i in 0..n {
         let g = tree_file(elements, i);
         if g.0 == f.0 {
             return true;
         }
-        i += 1;
     }
     false
 }
@@ -112,20 +108,20 @@ pub fn load_b(
     model: &[u64],
     p: Progress,
     f: FileNumber,
-) -> Step
+) -> Result<Progress, Refusal>
     requires good_loading { GoodLoading p schema.now elements.old model.now }
     requires f_lt_file_limit { f.0 < file_limit }
-    ensures { StepResult result schema.now elements.new model.now (load_b (loading_of p schema.now elements.old model.now) f.0) }
+    ensures { StepResult p result schema.now elements.new model.now (load_b (loading_of p schema.now elements.old model.now) f.0) }
 {
     if p.due {
-        return refuse(p, TREE_RULE);
+        return Err(Refusal::TreeRule);
     }
     if !may_wait(schema, elements, model, f) {
-        return refuse(p, TREE_RULE);
+        return Err(Refusal::TreeRule);
     }
     let root = element_count(elements);
     add_tree(elements, f, Element(root));
-    take_line(open_tree(p, KIND_B, p.seen))
+    Ok(open_tree(p, Kind::B, p.seen))
 }
 
 // The latest E one level up, if no E of smaller depth came between.
@@ -165,11 +161,10 @@ fn open_element(p: Progress, d: usize, e: usize) -> Progress
     let mut above = p.above;
     above[d] = e;
     Progress {
-        latest: p.latest,
-        seen: p.seen,
         due: false,
         depth: d + 1,
         above,
+        ..p
     }
 }
 
@@ -179,7 +174,7 @@ fn root_set_rule(schema: &[u64], p: Progress, s: FileSet) -> bool
     requires each { Each (λ (d : File). d.file < file_limit) (schema_of schema.now).files }
     ensures { (elements model : List ℕ) → result ≡ root_set_rule (loading_of p schema.now elements model) (set_is s) }
 {
-    if p.latest != KIND_M {
+    if p.latest != Kind::M {
         return s.is_empty();
     }
     if s.is_empty() {
@@ -193,7 +188,7 @@ fn set_rule(model: &[u64], p: Progress, s: FileSet) -> bool
     requires { GoodModel model.now }
     ensures { (schema elements : List ℕ) → result ≡ set_rule (loading_of p schema elements model.now) (set_is s) }
 {
-    if p.latest != KIND_M {
+    if p.latest != Kind::M {
         return s.is_empty();
     }
     s.part_of(loaded_files(model))
@@ -206,28 +201,28 @@ fn load_root(
     model: &mut [u64],
     p: Progress,
     c: ElementCells,
-) -> Step
+) -> Result<Progress, Refusal>
     requires good_loading { GoodLoading p schema.now elements.old model.old }
     requires elements_len_bound { length (elements_of elements.old).names < element_limit }
-    ensures { StepResult result schema.now elements.new model.new (load_root (loading_of p schema.now elements.old model.old) c.depth c.name.0 (set_is c.set)) }
+    ensures { StepResult p result schema.now elements.new model.new (load_root (loading_of p schema.now elements.old model.old) c.depth c.name.0 (set_is c.set)) }
 {
     let n = c.name;
     if c.depth != 0 {
-        return refuse(p, TREE_RULE);
+        return Err(Refusal::TreeRule);
     }
     if n.0 != 0 {
-        return refuse(p, TREE_RULE);
+        return Err(Refusal::TreeRule);
     }
     if !type_declared(schema, TypeNumber(0)) {
-        return refuse(p, SCHEMA_RULE);
+        return Err(Refusal::SchemaRule);
     }
     if !root_set_rule(schema, p, c.set) {
-        return refuse(p, TREE_RULE);
+        return Err(Refusal::TreeRule);
     }
     let e = element_count(elements);
     add_element_row(elements, Name(0), TypeNumber(0), 0);
     add_element(model, Parent::Missing, c.set);
-    take_line(open_element(p, 0, e))
+    Ok(open_element(p, 0, e))
 }
 
 // An element below its owner, of the type that the row gives.
@@ -260,27 +255,27 @@ fn load_child(
     model: &mut [u64],
     p: Progress,
     c: ElementCells,
-) -> Step
+) -> Result<Progress, Refusal>
     requires good_loading { GoodLoading p schema.now elements.old model.old }
     requires elements_len_bound { length (elements_of elements.old).names < element_limit }
     requires depth_le_depth_limit { c.depth ≤ depth_limit }
     requires item_limit_value { (eqb c.depth 0 || ltb (content_items (model_of model.old)) item_limit) ≡ true }
-    ensures { StepResult result schema.now elements.new model.new (load_child (loading_of p schema.now elements.old model.old) c.depth c.name.0 (set_is c.set)) }
+    ensures { StepResult p result schema.now elements.new model.new (load_child (loading_of p schema.now elements.old model.old) c.depth c.name.0 (set_is c.set)) }
 {
     let Parent::Of(o) = owner(p, c.depth) else {
-        return refuse(p, TREE_RULE);
+        return Err(Refusal::TreeRule);
     };
     let t = element_type(elements, o);
     let Found::At(i) = row_of_name(schema, t, c.name) else {
-        return refuse(p, TREE_RULE);
+        return Err(Refusal::TreeRule);
     };
     if !set_rule(model, p, c.set) {
-        return refuse(p, TREE_RULE);
+        return Err(Refusal::TreeRule);
     }
     let e = element_count(elements);
     let d = c.depth as usize;
     add_child(elements, model, o, row_child(schema, i), c);
-    take_line(open_element(p, d, e))
+    Ok(open_element(p, d, e))
 }
 
 // `E,depth,name,set`
@@ -290,19 +285,19 @@ pub fn load_e(
     model: &mut [u64],
     p: Progress,
     c: ElementCells,
-) -> Step
+) -> Result<Progress, Refusal>
     requires { GoodLoading p schema.now elements.old model.old }
-    ensures { StepResult result schema.now elements.new model.new (load_e (loading_of p schema.now elements.old model.old) c.depth c.name.0 (set_is c.set)) }
+    ensures { StepResult p result schema.now elements.new model.new (load_e (loading_of p schema.now elements.old model.old) c.depth c.name.0 (set_is c.set)) }
 {
     if DEPTH_LIMIT < c.depth {
-        return refuse(p, LIMIT);
+        return Err(Refusal::Limit);
     }
     if ELEMENT_LIMIT <= element_count(elements) {
-        return refuse(p, LIMIT);
+        return Err(Refusal::Limit);
     }
     if c.depth != 0 {
         if ITEM_LIMIT <= item_total(model) {
-            return refuse(p, LIMIT);
+            return Err(Refusal::Limit);
         }
     }
     if p.due {
@@ -326,29 +321,29 @@ pub fn load_c(
     model: &mut [u64],
     p: Progress,
     c: TextCells,
-) -> Step
+) -> Result<Progress, Refusal>
     requires good_loading { GoodLoading p schema.now elements.old model.old }
     requires kind_bound { c.kind < 4 }
-    ensures { StepResult result schema.now elements.new model.new (load_c (loading_of p schema.now elements.old model.old) c.depth (text_from c.kind c.value)) }
+    ensures { StepResult p result schema.now elements.new model.new (load_c (loading_of p schema.now elements.old model.old) c.depth (text_from c.kind c.value)) }
 {
     if DEPTH_LIMIT < c.depth {
-        return refuse(p, LIMIT);
+        return Err(Refusal::Limit);
     }
     if ITEM_LIMIT <= item_total(model) {
-        return refuse(p, LIMIT);
+        return Err(Refusal::Limit);
     }
     if p.due {
-        return refuse(p, TREE_RULE);
+        return Err(Refusal::TreeRule);
     }
     let Parent::Of(o) = owner(p, c.depth) else {
-        return refuse(p, TREE_RULE);
+        return Err(Refusal::TreeRule);
     };
     let t = element_type(elements, o);
     if !takes_text(type_mode(schema, t)) {
-        return refuse(p, TREE_RULE);
+        return Err(Refusal::TreeRule);
     }
     let n = text_count(elements);
     add_text(elements, c.kind, c.value);
     append_item(model, o, Item::Text(n));
-    take_line(p)
+    Ok(p)
 }

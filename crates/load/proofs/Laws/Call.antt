@@ -1,7 +1,8 @@
 -- The call of load on lent tables: all tables zero, or the encodings of what was loaded. Assumes nothing.
-use mathlib.Core.Bool.{true, false, and-eq-true_iff}
+use mathlib.Core.Bool.{true, false, false≢true, and-eq-true_iff}
 use mathlib.Core.List.{List, []}
-use mathlib.Core.Path.{◌≡◌, refl, ap, ◌∙◌}
+use Rattle.std.specs.Prelude.{Result, Ok, Err, is_err}
+use mathlib.Core.Path.{◌≡◌, refl, sym, ap, ◌∙◌}
 use Prim.Native.Nat.{ℕ}
 use borrow.Author.Tests.{eqb-true, eq-eqb, ne_eqb}
 use lib.Dec.{eqb}
@@ -12,9 +13,10 @@ use Rattle.tables.specs.ModelTable.{model_size}
 use Rattle.tables.specs.SchemaTable.{schema_size}
 use Rattle.deck.specs.Load.{Load, loaded, refused_at, load}
 use Rattle.load.proofs.Laws.Empty.{zeros-length}
-use Rattle.load.specs.LoadCall.{Tables, tables_of, zeros, sizes_fit, load_result, load_into, load_call, answer_is, Loads}
-use Rattle.load.specs.declared.load.Answer.{Answer}
-use Rattle.load.specs.declared.load.Answer.TheVariants.{Loaded, Refused}
+use Rattle.load.specs.LoadCall.{Tables, tables_of, zeros, sizes_fit, Loaded, Refused, load_answer, load_result, load_into, load_call, answer_is, Loads}
+use Rattle.load.specs.Lines.{refusal_number}
+use Rattle.load.specs.declared.refusals.LoadError.{LoadError}
+use Rattle.load.specs.declared.refusals.Refusal.TheVariants.{WrongSize}
 
 -- ---- sizes
 
@@ -62,29 +64,33 @@ all_fit t h =
 zeros-as : (xs ys : List ℕ) → length xs ≡ length ys → zeros xs ≡ zeros ys
 zeros-as xs ys e = ap (λ (n : ℕ). replicate n 0) e
 
-module _ (deck schema elements model schema₀ elements₀ model₀ log : List ℕ) (r : Answer) (h : Loads r deck schema elements model (load deck)) where
-  pub into-refused : (n line : ℕ) → r ≡ Refused n line → length schema ≡ length schema₀ → length elements ≡ length elements₀ → length model ≡ length model₀
+module _ (deck schema elements model schema₀ elements₀ model₀ log : List ℕ) where
+  pub into-refused : (r : Result (Unit {0}) LoadError) → Loads r deck schema elements model (load deck) → is_err r ≡ true
+      → length schema ≡ length schema₀ → length elements ≡ length elements₀ → length model ≡ length model₀
       → (schema' elements' model' : List ℕ) → schema' ≡ zeros schema → elements' ≡ zeros elements → model' ≡ zeros model → log ≡ zeros log
-      → load_result r schema' elements' model' log ≡ load_into (tables_of schema₀ elements₀ model₀ log) (load deck)
-  unfolding load_into answer_is
-  into-refused n line e ls le lm schema' elements' model' zs ze zm zl =
+      → load_result (load_answer r) schema' elements' model' log ≡ load_into (tables_of schema₀ elements₀ model₀ log) (load deck)
+  unfolding load_into load_answer answer_is
+  into-refused (Ok u) h b ls le lm schema' elements' model' zs ze zm zl = absurd (false≢true b)
+  into-refused (Err x) h b ls le lm schema' elements' model' zs ze zm zl =
       let a : schema' ≡ zeros schema₀ = zs ∙ zeros-as schema schema₀ ls in
       let b : elements' ≡ zeros elements₀ = ze ∙ zeros-as elements elements₀ le in
       let d : model' ≡ zeros model₀ = zm ∙ zeros-as model model₀ lm in
-      rw (← h.is, e) (λ i. load_result (Refused n line) (a i) (b i) (d i) (zl i))
+      rw (← h.is) (λ i. load_result (Refused (refusal_number x.refusal) x.line) (a i) (b i) (d i) (zl i))
 
-  pub into-loaded : r ≡ Loaded → log ≡ encode_log [] → load_result r schema elements model log ≡ load_into (tables_of schema₀ elements₀ model₀ log) (load deck)
-  unfolding load_into answer_is
-  into-loaded e l =
-      rw (← h.is, e)
+  pub into-loaded : (r : Result (Unit {0}) LoadError) → Loads r deck schema elements model (load deck) → is_err r ≡ false → log ≡ encode_log []
+      → load_result (load_answer r) schema elements model log ≡ load_into (tables_of schema₀ elements₀ model₀ log) (load deck)
+  unfolding load_into load_answer answer_is
+  into-loaded (Ok u) h b l =
+      rw (← h.is)
       (λ i. load_result Loaded (h.good_schema.raw i) (h.good_elements.raw i) (h.good_model.raw i) (l i))
+  into-loaded (Err x) h b l = absurd (false≢true (sym b))
 
 -- ---- the call
 
 module _ (deck schema elements model log schema' elements' model' log' : List ℕ) (zs : schema' ≡ zeros schema) (ze : elements' ≡ zeros elements) (zm : model' ≡ zeros model) (zl : log' ≡ zeros log) where
   pub call-misfit : sizes_fit (tables_of schema elements model log) ≡ false
-      → load_result (Refused 0 0) schema' elements' model' log' ≡ load_call deck (tables_of schema elements model log)
-  unfolding load_call
+      → load_result (load_answer (Err (record { refusal = WrongSize; line = 0 }))) schema' elements' model' log' ≡ load_call deck (tables_of schema elements model log)
+  unfolding load_call load_answer
   call-misfit h = rw (h, load_call) (λ i. load_result (Refused 0 0) (zs i) (ze i) (zm i) (zl i))
 
   into-same : (o : Load) → load_into (tables_of schema' elements' model' log') o ≡ load_into (tables_of schema elements model log) o

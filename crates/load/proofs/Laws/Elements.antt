@@ -2,6 +2,7 @@
 use mathlib.Core.Bool.{Bool, true, false, ◌&&◌, ◌||◌}
 use mathlib.Core.List.{List, [], ◌∷◌, ◌++◌}
 use mathlib.Core.Option.{Option, none, some}
+use Rattle.std.specs.Prelude.{Ok}
 use mathlib.Core.Path.{◌≡◌, refl, sym, ap, ◌∙◌, subst}
 use Prim.Native.Nat.{ℕ, ◌+◌, ◌≤◌, ◌<◌}
 use native.Mathlib.Omega.{arith}
@@ -17,10 +18,8 @@ use Rattle.tables.specs.ModelTable.{count_of, model_of, GoodModel, HoldsModel}
 use Rattle.tables.specs.SchemaTable.{schema_of, no_sub_element}
 use Rattle.deck.specs.Load.{Loading, Res, ok, refused, schema_rule, tree_rule, limit, put_content, owner, root_set_rule, set_rule, next_element, append, load_root, load_child, load_e}
 use Rattle.deck.specs.Schema.{declared_type, row_of_name}
-use Rattle.load.specs.Lines.{open_limit, loading_of, LoadingFits, GoodLoading, StepResult}
+use Rattle.load.specs.Lines.{open_limit, kind_number, loading_of, LoadingFits, GoodLoading, StepResult}
 use Rattle.load.specs.declared.progress.Progress.{Progress}
-use Rattle.load.specs.declared.progress.Verdict.TheVariants.{Taken}
-use Rattle.load.specs.declared.progress.Step.{Step}
 use Rattle.tables.proofs.Laws.Cells.{each_append, each-imp, each-get_d, each_take}
 use Rattle.tables.proofs.Laws.Model.{count_add, total-add}
 use Rattle.deck.proofs.Laws.Load.{owner-within, append-added, count-append, total-append}
@@ -242,8 +241,7 @@ room-item d n h = by (eqb d 0) (lt-ltb n item_limit h)
 
 -- ---- the line taken
 
-module _ (s : Step) (p : Progress) (schema elements model : List ℕ) (g : GoodLoading p schema elements model) (told : s.verdict ≡ Taken)
-    (elements' model' : List ℕ) where
+module _ (p : Progress) (schema elements model : List ℕ) (g : GoodLoading p schema elements model) (q : Progress) (elements' model' : List ℕ) where
   abbrev l : Loading
   l = loading_of p schema elements model
 
@@ -251,15 +249,15 @@ module _ (s : Step) (p : Progress) (schema elements model : List ℕ) (g : GoodL
   abbrev after : ℕ → Element → Progress
   after d e = record { latest = p.latest; seen = p.seen; due = false; depth = d + 1; above = set p.above d e }
 
-  element-line : (d : ℕ) (e : Element) (above : List Element) (es : Elements) (m : Model) (o : Res Loading) → s.progress ≡ after d e
+  element-line : (d : ℕ) (e : Element) (above : List Element) (es : Elements) (m : Model) (o : Res Loading) → q ≡ after d e
       → d < open_limit → take (d + 1) (set p.above d e) ≡ above → HoldsElements elements' es → HoldsModel model' m
-      → LoadingFits (put_content l above es m) → o ≡ ok (put_content l above es m) → StepResult s schema elements' model' o
+      → LoadingFits (put_content l above es m) → o ≡ ok (put_content l above es m) → StepResult p (Ok q) schema elements' model' o
   unfolding put_content
   element-line d e above es m o to low opens he hm fits is =
       let same : loading_of (after d e) schema elements' model' ≡ put_content l above es m =
       λ i.
       record {
-        latest = p.latest;
+        latest = kind_number p.latest;
         model_seen = p.seen;
         root_due = false;
         above = opens i;
@@ -268,12 +266,12 @@ module _ (s : Step) (p : Progress) (schema elements model : List ℕ) (g : GoodL
         model = hm.is i;
       }
       in
-      line_taken s (after d e) schema elements' model' o (put_content l above es m) (told, to) same (omega arith)
+      line_taken (put_content l above es m) to same (omega arith)
       (length-set p.above d e ∙ g.room) g.good_schema he.good hm.good fits is
 
-  pub root_line : (d : ℕ) (n : Name) (x : FileSet) (e : Element) → s.progress ≡ after 0 e → e ≡ length (elements_of elements).names → d ≡ 0 → n ≡ 0
+  pub root_line : (d : ℕ) (n : Name) (x : FileSet) (e : Element) → q ≡ after 0 e → e ≡ length (elements_of elements).names → d ≡ 0 → n ≡ 0
       → declared_type (schema_of schema) 0 ≡ true → root_set_rule l x ≡ true → HoldsElements elements' (add_element (elements_of elements) 0 0 0)
-      → HoldsModel model' (add_to_model (model_of model) none x) → StepResult s schema elements' model' (load_root l d n x)
+      → HoldsModel model' (add_to_model (model_of model) none x) → StepResult p (Ok q) schema elements' model' (load_root l d n x)
   unfolding next_element
   root_line d n x e to next top unnamed typed part he hm =
       let opens : take (0 + 1) (set p.above 0 e) ≡ length (elements_of elements).names ∷ [] =
@@ -282,12 +280,12 @@ module _ (s : Step) (p : Progress) (schema elements model : List ℕ) (g : GoodL
       element-line 0 e (length (elements_of elements).names ∷ []) (add_element (elements_of elements) 0 0 0) (add_to_model (model_of model) none x) (load_root l d n x) to (omega arith)
       opens he hm (fits-root l g.fits x typed) (root-taken l d n x top unnamed typed part)
 
-  pub child-line : (d : ℕ) (n : Name) (x : FileSet) (o : Element) (row : SubElement) (e : Element) (t : TypeNumber) → s.progress ≡ after d e
+  pub child-line : (d : ℕ) (n : Name) (x : FileSet) (o : Element) (row : SubElement) (e : Element) (t : TypeNumber) → q ≡ after d e
       → e ≡ length (elements_of elements).names → t ≡ row.child_type → d < open_limit → owner l d ≡ some o → row_of_name (schema_of schema) (get_or (elements_of elements).types o 0) n ≡ some row
       → row.child_type < length (schema_of schema).types → set_rule l x ≡ true
       → HoldsElements elements' (add_element (elements_of elements) n t d)
       → HoldsModel model' (add_to_model (append (model_of model) o (child (length (elements_of elements).names))) (some o) x)
-      → StepResult s schema elements' model' (load_child l d n x)
+      → StepResult p (Ok q) schema elements' model' (load_child l d n x)
   unfolding next_element
   child-line d n x o row e t to next type low owns found typed part he hm =
       let last = length (elements_of elements).names in

@@ -1,6 +1,7 @@
 -- T, G, S and F lines: the tests in their order, and what each line keeps. Assumes nothing.
 use mathlib.Core.Bool.{Bool, true, false, false≢true}
 use mathlib.Core.List.{List, [], ◌∷◌, ◌++◌}
+use Rattle.std.specs.Prelude.{Ok}
 use mathlib.Core.Path.{◌≡◌, refl, sym, ap, ◌∙◌}
 use Prim.Native.Nat.{ℕ, ◌≤◌, ◌<◌}
 use native.Mathlib.Omega.{arith}
@@ -18,10 +19,9 @@ use Rattle.schema_calls.specs.Calls.{groups_above, rows_above}
 use Rattle.schema_calls.proofs.Laws.Closed.{closed-type, closed-file, closed-group, closed-row}
 use Rattle.schema_calls.proofs.Laws.Rules.{child-declared}
 use Rattle.schema_calls.proofs.Laws.Schemas.{groups-all, rows_all}
-use Rattle.load.specs.Lines.{loading_of, LoadingFits, GoodLoading, StepResult}
+use Rattle.load.specs.Lines.{kind_number, loading_of, LoadingFits, GoodLoading, StepResult}
 use Rattle.load.specs.declared.progress.Progress.{Progress}
-use Rattle.load.specs.declared.progress.Step.{Step}
-use Rattle.load.specs.declared.progress.Verdict.TheVariants.{Taken}
+use Rattle.load.specs.declared.progress.Kind.{Kind}
 use Rattle.load.proofs.Laws.Results.{passes, fails}
 use Rattle.load.proofs.Laws.Steps.{line_taken}
 use Rattle.load.proofs.Laws.Taken.{taken_more}
@@ -200,19 +200,20 @@ module _ (l : Loading) (f : LoadingFits l) where
 
 -- ---- the schema's table holds what the line adds
 
-abbrev after_kind : Progress → ℕ → Progress
+abbrev after_kind : Progress → Kind → Progress
 after_kind p kind = record { latest = kind; seen = p.seen; due = p.due; depth = p.depth; above = p.above }
 
-put-schema : (p : Progress) (kind : ℕ) (schema schema' elements model : List ℕ) (sc : Schema) → schema_of schema' ≡ sc
-    → loading_of (after_kind p kind) schema' elements model ≡ put_schema (loading_of p schema elements model) kind sc
+put-schema : (p : Progress) (kind : Kind) (schema schema' elements model : List ℕ) (sc : Schema) → schema_of schema' ≡ sc
+    → loading_of (after_kind p kind) schema' elements model ≡ put_schema (loading_of p schema elements model) (kind_number kind) sc
 unfolding put_schema
 put-schema p kind schema schema' elements model sc e = rw e
 
-pub step-schema : (p : Progress) (s : Step) (schema schema' elements model : List ℕ) (o : Res Loading) (kind : ℕ) (sc : Schema)
-    → (s.verdict ≡ Taken) × (s.progress ≡ after_kind p kind) → GoodLoading p schema elements model → HoldsSchema schema' sc
-    → LoadingFits (put_schema (loading_of p schema elements model) kind sc) → o ≡ ok (put_schema (loading_of p schema elements model) kind sc)
-    → StepResult s schema' elements model o
-step-schema p s schema schema' elements model o kind sc told g h fits is =
-    line_taken s (after_kind p kind) schema' elements model o (put_schema (loading_of p schema elements model) kind sc) told
+pub step-schema : {p q : Progress} {schema schema' elements model : List ℕ} {o : Res Loading} (kind : Kind) (sc : Schema)
+    → q ≡ after_kind p kind → GoodLoading p schema elements model → HoldsSchema schema' sc
+    → LoadingFits (put_schema (loading_of p schema elements model) (kind_number kind) sc)
+    → o ≡ ok (put_schema (loading_of p schema elements model) (kind_number kind) sc)
+    → StepResult p (Ok q) schema' elements model o
+step-schema {p} {q} {schema} {schema'} {elements} {model} {o} kind sc told g h fits is =
+    line_taken (put_schema (loading_of p schema elements model) (kind_number kind) sc) told
     (put-schema p kind schema schema' elements model sc h.is)
     g.depth g.room h.good g.good_elements g.good_model fits is

@@ -2,6 +2,7 @@
 use mathlib.Core.Bool.{Bool, true, false, not, ◌&&◌}
 use mathlib.Core.List.{List, [], ◌∷◌}
 use mathlib.Core.Option.{none, some}
+use Rattle.std.specs.Prelude.{Ok}
 use mathlib.Core.Path.{◌≡◌, refl, sym, ap, ◌∙◌}
 use Prim.Native.Nat.{ℕ, zero, suc, ◌≤◌, ◌<◌}
 use native.Mathlib.Omega.{arith}
@@ -16,10 +17,8 @@ use Rattle.tables.specs.SchemaTable.{schema_of, mode_number, mode_from}
 use Rattle.deck.specs.Load.{Loading, ok, refused, tree_rule, limit, put_content, owner, append, takes_text, load_c}
 use Rattle.tables.proofs.Laws.SchemaTable.{mode-back}
 use Rattle.deck.proofs.Laws.Load.{count-append, total-append}
-use Rattle.load.specs.Lines.{loading_of, LoadingFits, GoodLoading, StepResult}
+use Rattle.load.specs.Lines.{kind_number, loading_of, LoadingFits, GoodLoading, StepResult}
 use Rattle.load.specs.declared.progress.Progress.{Progress}
-use Rattle.load.specs.declared.progress.Verdict.TheVariants.{Taken}
-use Rattle.load.specs.declared.progress.Step.{Step}
 use Rattle.load.proofs.Laws.Above.{owner-element}
 use Rattle.load.proofs.Laws.Steps.{line_taken}
 use Rattle.load.proofs.Laws.Results.{passes, fails, finds, misses}
@@ -116,15 +115,15 @@ module _ (l : Loading) (d : ℕ) (t : Text) where
 
 -- ---- the line taken
 
-pub c-line : (s : Step) (p : Progress) (schema elements model elements' model' : List ℕ) → GoodLoading p schema elements model
-    → (s.verdict ≡ Taken) × (s.progress ≡ p) → (d : ℕ) (t : Text) (o : Element) → d ≤ depth_limit → content_items (model_of model) < item_limit
+pub c-line : (p : Progress) (schema elements model elements' model' : List ℕ) → GoodLoading p schema elements model
+    → (d : ℕ) (t : Text) (o : Element) → d ≤ depth_limit → content_items (model_of model) < item_limit
     → p.due ≡ false → owner (loading_of p schema elements model) d ≡ some o
     → takes_text (type_row (schema_of schema) (get_or (elements_of elements).types o 0)).mode ≡ true
     → HoldsElements elements' (add_text (elements_of elements) t)
     → HoldsModel model' (append (model_of model) o (text (length (elements_of elements).texts)))
-    → StepResult s schema elements' model' (load_c (loading_of p schema elements model) d t)
+    → StepResult p (Ok p) schema elements' model' (load_c (loading_of p schema elements model) d t)
 unfolding put_content
-c-line s p schema elements model elements' model' g told d t o low room due owns takes he hm =
+c-line p schema elements model elements' model' g d t o low room due owns takes he hm =
     let l = loading_of p schema elements model in
     let k = length (elements_of elements).texts in
     let h : o < length (model_of model).lists =
@@ -139,7 +138,7 @@ c-line s p schema elements model elements' model' g told d t o low room due owns
     ≡ put_content l (take p.depth p.above) (add_text (elements_of elements) t) (append (model_of model) o (text k)) =
     λ i.
     record {
-      latest = p.latest;
+      latest = kind_number p.latest;
       model_seen = p.seen;
       root_due = due i;
       above = take p.depth p.above;
@@ -148,6 +147,5 @@ c-line s p schema elements model elements' model' g told d t o low room due owns
       model = hm.is i;
     }
     in
-    line_taken s p schema elements' model' (load_c l d t)
-    (put_content l (take p.depth p.above) (add_text (elements_of elements) t) (append (model_of model) o (text k))) told same g.depth
-    g.room g.good_schema he.good hm.good (fits-text l g.fits o t k h) (c-taken l d t low room due o owns takes)
+    line_taken
+    (put_content l (take p.depth p.above) (add_text (elements_of elements) t) (append (model_of model) o (text k))) refl same g.depth g.room g.good_schema he.good hm.good (fits-text l g.fits o t k h) (c-taken l d t low room due o owns takes)

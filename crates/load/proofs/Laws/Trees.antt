@@ -1,8 +1,9 @@
 -- M and B lines: what they give, and what stays of the lines so far. Assumes nothing.
 use mathlib.Core.Bool.{Bool, true, false, not, ◌&&◌}
 use mathlib.Core.List.{List}
+use Rattle.std.specs.Prelude.{Ok}
 use mathlib.Core.Path.{◌≡◌, refl, ap, ◌∙◌}
-use Prim.Native.Nat.{ℕ, ◌≤◌, ◌<◌}
+use Prim.Native.Nat.{ℕ, ◌<◌}
 use native.Mathlib.Omega.{arith}
 use borrow.Author.Tests.{le-leb, lt-leb, lt-ltb, le-ltb, eq-eqb, ne_eqb}
 use lib.Dec.{eqb}
@@ -15,10 +16,10 @@ use Rattle.deck.specs.Load.{Loading, ok, refused, form, tree_rule, kind_m, kind_
 use Rattle.deck.specs.Schema.{declares_file, declared_files}
 use Rattle.deck.proofs.Laws.Load.{wait-new}
 use Rattle.tables.specs.ElementsTable.{elements_of, HoldsElements}
-use Rattle.load.specs.Lines.{loading_of, LoadingFits, GoodLoading, StepResult}
+use Rattle.load.specs.Lines.{kind_number, loading_of, LoadingFits, GoodLoading, StepResult}
 use Rattle.load.specs.declared.progress.Progress.{Progress}
-use Rattle.load.specs.declared.progress.Verdict.TheVariants.{Taken}
-use Rattle.load.specs.declared.progress.Step.{Step}
+use Rattle.load.specs.declared.progress.Kind.{Kind}
+use Rattle.load.specs.declared.progress.Kind.TheVariants.{M, B}
 use Rattle.load.proofs.Laws.Results.{passes, fails}
 use Rattle.load.proofs.Laws.Steps.{line_taken}
 use Rattle.load.proofs.Laws.Taken.{taken_more, taken-room}
@@ -30,9 +31,9 @@ module _ (l : Loading) where
   unfolding load_m
   m-late h = fails _ _ (lt-leb l.latest kind_m h)
 
-  pub m-twice : l.latest ≤ kind_m → kind_m ≤ l.latest → load_m l ≡ refused tree_rule
+  pub m-twice : l.latest ≡ kind_m → load_m l ≡ refused tree_rule
   unfolding load_m
-  m-twice h k = passes _ _ (le-leb l.latest kind_m h) (fails _ _ (le-ltb l.latest kind_m k))
+  m-twice h = passes _ _ (le-leb l.latest kind_m (omega arith)) (fails _ _ (le-ltb l.latest kind_m (omega arith)))
 
   pub m-taken : l.latest < kind_m → load_m l ≡ ok (open_tree l kind_m true l.elements)
   unfolding load_m
@@ -142,26 +143,26 @@ module _ (l : Loading) where
 
 -- ---- the line taken
 
-module _ (s : Step) (p : Progress) (schema elements model : List ℕ) (g : GoodLoading p schema elements model) (told : s.verdict ≡ Taken) where
+module _ (p : Progress) (schema elements model : List ℕ) (g : GoodLoading p schema elements model) (q : Progress) where
   abbrev l : Loading
   l = loading_of p schema elements model
 
   -- a root due, nothing open
-  abbrev after : ℕ → Bool → Progress
+  abbrev after : Kind → Bool → Progress
   after kind seen = record { latest = kind; seen = seen; due = true; depth = 0; above = p.above }
 
-  pub m-line : s.progress ≡ after kind_m true → p.latest < kind_m → StepResult s schema elements model (load_m l)
+  pub m-line : q ≡ after M true → kind_number p.latest < kind_m → StepResult p (Ok q) schema elements model (load_m l)
   unfolding open_tree
   m-line to h =
-      line_taken s (after kind_m true) schema elements model (load_m l) (open_tree l kind_m true (elements_of elements)) (told, to) refl (omega arith)
+      line_taken (open_tree l kind_m true (elements_of elements)) to refl (omega arith)
       g.room g.good_schema g.good_elements g.good_model (fits-opened l true g.fits) (m-taken l h)
 
-  pub b-line : (f : FileNumber) (elements' : List ℕ) → s.progress ≡ after kind_b p.seen → f < file_limit → p.due ≡ false → may_wait l f ≡ true
+  pub b-line : (f : FileNumber) (elements' : List ℕ) → q ≡ after B p.seen → f < file_limit → p.due ≡ false → may_wait l f ≡ true
       → HoldsElements elements' (add_tree (elements_of elements) (record { file = f; root = length (elements_of elements).names }))
-      → StepResult s schema elements' model (load_b l f)
+      → StepResult p (Ok q) schema elements' model (load_b l f)
   unfolding open_tree
   b-line f elements' to small due new held =
       let es = add_tree (elements_of elements) (record { file = f; root = length (elements_of elements).names }) in
-      line_taken s (after kind_b p.seen) schema elements' model (load_b l f) (open_tree l kind_b p.seen es) (told, to)
+      line_taken (open_tree l kind_b p.seen es) to
       (ap (λ (x : Elements). open_tree l kind_b p.seen x) held.is) (omega arith) g.room g.good_schema held.good g.good_model
       (fits-tree l f p.seen g.fits small new) (b-taken l f due new)

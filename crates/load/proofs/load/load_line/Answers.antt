@@ -66,4 +66,4 @@ returns-in-C c = line_as (result-c _ _ _ c.in-C.is) c.load_c.ensures
 
 pub returns-in-Bad : goal.returns-in-Bad
 returns-in-Bad c =
-    line_refused _ _ _ _ _ _ 1 c.refuse.ensures c.requires.good_loading (result-bad _ _ c.in-Bad.is)
+    line_refused c.requires.good_loading (result-bad _ _ c.in-Bad.is)

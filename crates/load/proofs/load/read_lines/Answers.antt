@@ -1,4 +1,3 @@
-use mathlib.Core.Path.{sym, ◌∙◌}
 use native.Mathlib.Omega.{arith}
 use borrow.Author.Rules.{rules}
 use Rattle.load.proofs.Laws.Reading.{reading-start, reading-open, reading-taken, reading-refused, reading-end}
@@ -23,24 +22,15 @@ returns-in_default c =
     reading-open c.args.deck.now c.loop-at.p c.loop-at.at c.loop-at.n c.loop-at.schema c.loop-at.elements c.loop-at.model
     c.loop-at.invariant c.loop-at-test.true (rw c.in_default.is at c.line_from.ensures)
 
-pub load_line-s-requires : goal.load_line-s-requires
-load_line-s-requires c =
+pub load_line-requires : goal.load_line-requires
+load_line-requires c =
     let f = rw c.in-Whole.is at c.line_from.ensures in record { good_loading = c.loop-at.invariant.good; line_fits = f.reads.fits }
 
-pub shape_of-schema-in-Refused : goal.shape_of-schema-in-Refused
-shape_of-schema-in-Refused c = c.load_line-s.ensures.good.good_schema.size ∙ sym c.requires.holds_schema.good.size
-
-pub shape_of-elements-in-Refused : goal.shape_of-elements-in-Refused
-shape_of-elements-in-Refused c = c.load_line-s.ensures.good.good_elements.size ∙ sym c.requires.holds_elements.good.size
-
-pub shape_of-model-in-Refused : goal.shape_of-model-in-Refused
-shape_of-model-in-Refused c = c.load_line-s.ensures.good.good_model.size ∙ sym c.requires.holds_model.good.size
-
-pub returns-in-Refused : goal.returns-in-Refused
-returns-in-Refused c =
+pub returns-in_err-p : goal.returns-in_err-p
+returns-in_err-p c =
     let f = rw c.in-Whole.is at c.line_from.ensures in
     reading-refused c.args.deck.now c.loop-at.p c.loop-at.at c.loop-at.n c.loop-at.schema c.loop-at.elements c.loop-at.model
-    c.loop-at.invariant _ _ f _ _ _ _ c.load_line-s.ensures _ c.in-Refused.is
+    c.loop-at.invariant _ _ f _ _ _ _ c.load_line.ensures _ (λ q e. search rules) (λ x e. search rules)
 
 pub loop-at-smaller : goal.loop-at-smaller
 loop-at-smaller c =
@@ -51,7 +41,7 @@ pub loop-at-preserved : goal.loop-at-preserved
 loop-at-preserved c =
     let f = rw c.in-Whole.is at c.line_from.ensures in
     reading-taken c.args.deck.now c.loop-at.p c.loop-at.at c.loop-at.n c.loop-at.schema c.loop-at.elements c.loop-at.model
-    c.loop-at.invariant _ _ f _ _ _ _ c.load_line-s.ensures c.in_default-v.is
+    c.loop-at.invariant _ _ f _ _ _ _ c.load_line.ensures _ (search rules)
 
 pub returns : goal.returns
 returns c =

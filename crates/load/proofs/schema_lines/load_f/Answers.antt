@@ -1,4 +1,9 @@
 use mathlib.Core.Path.{sym, ◌∙◌}
+use Prim.Native.Nat.{◌<◌, ◌≤◌}
+use borrow.Author.Rules.{rules}
+use Rattle.deck.specs.Load.{kind_f}
+use Rattle.load.specs.Lines.{kind_number}
+use Rattle.load.specs.declared.progress.Kind.TheVariants.{F}
 use Rattle.tables.specs.Limits.{file_limit}
 use Rattle.tables.specs.Records.{File, add_file}
 use Rattle.tables.specs.SchemaTable.{schema_of}
@@ -8,15 +13,17 @@ use Rattle.load.proofs.Laws.Steps.{line_refused}
 use Rattle.load.proofs.Laws.Taken.{taken-room}
 use Rattle.load.proofs.schema_lines.load_f.Goals as goal
 
-pub returns-then-p-gt-KIND_F : goal.returns-then-p-gt-KIND_F
-returns-then-p-gt-KIND_F c elements model g =
-    line_refused _ _ _ elements model _ 1 c.refuse.ensures g
-    (f-late _ _ c.if-p-gt-KIND_F.true)
+pub returns-then-lt : goal.returns-then-lt
+returns-then-lt c elements model g =
+    let late : kind_f < kind_number c.args.p.latest = search rules in
+    line_refused g
+    (f-late _ _ late)
 
 pub returns-then-not-files_below : goal.returns-then-not-files_below
 returns-then-not-files_below c elements model g =
-    line_refused _ _ _ elements model _ 1 c.refuse-then-not-files_below.ensures g
-    (f-order _ _ c.if-p-gt-KIND_F.false (sym c.files_below.ensures ∙ c.if-not-files_below.true))
+    let early : kind_number c.args.p.latest ≤ kind_f = search rules in
+    line_refused g
+    (f-order _ _ early (sym c.files_below.ensures ∙ c.if-not-files_below.true))
 
 pub add_file-requires : goal.add_file-requires
 add_file-requires c =
@@ -31,12 +38,13 @@ add_file-requires c =
 
 pub returns : goal.returns
 returns c elements model g =
+    let early : kind_number c.args.p.latest ≤ kind_f = search rules in
     let xs = c.args.schema.now in
     let below = sym c.files_below.ensures ∙ c.if-not-files_below.false in
     let new = below_new (λ (d : File). d.file) _ (schema_of xs).files below in
-    step-schema c.args.p c.take_line.result xs _ elements model _ 3 (add_file (schema_of xs) (file_is c.args.c))
-    (c.take_line.ensures.0, c.take_line.ensures.1 ∙ c.after.ensures)
+    step-schema F (add_file (schema_of xs) (file_is c.args.c))
+    c.after.ensures
     g
     c.add_file.ensures
     (fits-file _ g.fits _ c.requires.file_lt_file_limit.0 new)
-    (f-taken _ _ c.if-p-gt-KIND_F.false below)
+    (f-taken _ _ early below)

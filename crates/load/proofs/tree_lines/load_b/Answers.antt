@@ -9,12 +9,12 @@ use Rattle.load.proofs.tree_lines.load_b.Goals as goal
 
 pub returns-then-p : goal.returns-then-p
 returns-then-p c =
-    line_refused _ _ _ _ _ _ 3 c.refuse.ensures c.requires.good_loading
+    line_refused c.requires.good_loading
     (b-due _ _ c.if-p.true)
 
 pub returns-then-not-may_wait : goal.returns-then-not-may_wait
 returns-then-not-may_wait c =
-    line_refused _ _ _ _ _ _ 3 c.refuse-then-not-may_wait.ensures c.requires.good_loading
+    line_refused c.requires.good_loading
     (b-barred _ _ c.if-p.false (sym (c.may_wait.ensures c.args.p) ∙ c.if-not-may_wait.true))
 
 pub add_tree-requires : goal.add_tree-requires
@@ -32,6 +32,6 @@ returns c =
     let waits : may_wait (loading_of c.args.p c.args.schema.now c.args.elements.now c.args.model.now) c.args.f.0 ≡ true =
     sym (c.may_wait.ensures c.args.p) ∙ c.if-not-may_wait.false
     in
-    b-line _ _ _ _ _ c.requires.good_loading c.take_line.ensures.0 _ _ (c.take_line.ensures.1 ∙ c.open_tree.ensures)
+    b-line _ _ _ _ c.requires.good_loading _ _ _ c.open_tree.ensures
     c.requires.f_lt_file_limit c.if-p.false
     waits (rw c.element_count-root.ensures at c.add_tree.ensures)

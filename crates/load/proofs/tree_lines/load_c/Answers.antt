@@ -14,25 +14,25 @@ use Rattle.load.proofs.tree_lines.load_c.Goals as goal
 
 pub returns-then-c-gt-DEPTH_LIMIT : goal.returns-then-c-gt-DEPTH_LIMIT
 returns-then-c-gt-DEPTH_LIMIT c =
-    line_refused _ _ _ _ _ _ 4 c.refuse.ensures c.requires.good_loading
+    line_refused c.requires.good_loading
     (c-deep _ _ _ c.if-c-gt-DEPTH_LIMIT.true)
 
 pub returns-then-item_total-ge-ITEM_LIMIT : goal.returns-then-item_total-ge-ITEM_LIMIT
 returns-then-item_total-ge-ITEM_LIMIT c =
-    line_refused _ _ _ _ _ _ 4 c.refuse-then-item_total-ge-ITEM_LIMIT.ensures c.requires.good_loading
+    line_refused c.requires.good_loading
     (c-full _ _ _ c.if-c-gt-DEPTH_LIMIT.false (rw c.item_total.ensures at c.if-item_total-ge-ITEM_LIMIT.true))
 
 pub returns-then-p : goal.returns-then-p
 returns-then-p c =
     let few = rw c.item_total.ensures at c.if-item_total-ge-ITEM_LIMIT.false in
-    line_refused _ _ _ _ _ _ 3 c.refuse-then-p.ensures c.requires.good_loading
+    line_refused c.requires.good_loading
     (c-due _ _ _ c.if-c-gt-DEPTH_LIMIT.false few c.if-p.true)
 
 pub returns-in_default : goal.returns-in_default
 returns-in_default c =
     let alone = owner-told c.args.p c.args.schema.now c.args.elements.now c.args.model.now c.args.c.depth _ _ c.owner.ensures c.in_default.is in
     let few = rw c.item_total.ensures at c.if-item_total-ge-ITEM_LIMIT.false in
-    line_refused _ _ _ _ _ _ 3 c.refuse-in_default.ensures c.requires.good_loading
+    line_refused c.requires.good_loading
     (c-alone _ _ _ c.if-c-gt-DEPTH_LIMIT.false few c.if-p.false alone)
 
 pub element_type-t-requires : goal.element_type-t-requires
@@ -59,7 +59,7 @@ returns-then-not-takes_text c =
     ≡ c.takes_text.result = mode-told (schema_of c.args.schema.now) _ _ _ c.element_type-t.ensures c.type_mode.ensures _ c.takes_text.ensures in
     let few = rw c.item_total.ensures at c.if-item_total-ge-ITEM_LIMIT.false in
     let owns = owner-told c.args.p c.args.schema.now c.args.elements.now c.args.model.now c.args.c.depth _ _ c.owner.ensures c.in-Of.is in
-    line_refused _ _ _ _ _ _ 3 c.refuse-then-not-takes_text.ensures c.requires.good_loading
+    line_refused c.requires.good_loading
     (c-barred _ _ _ c.if-c-gt-DEPTH_LIMIT.false few c.if-p.false _ owns (mode ∙ c.if-not-takes_text.true))
 
 pub append_item-requires : goal.append_item-requires
@@ -81,5 +81,5 @@ returns c =
     ≡ c.takes_text.result = mode-told (schema_of c.args.schema.now) _ _ _ c.element_type-t.ensures c.type_mode.ensures _ c.takes_text.ensures in
     let few = rw c.item_total.ensures at c.if-item_total-ge-ITEM_LIMIT.false in
     let owns = owner-told c.args.p c.args.schema.now c.args.elements.now c.args.model.now c.args.c.depth _ _ c.owner.ensures c.in-Of.is in
-    c-line _ _ _ _ _ _ _ c.requires.good_loading c.take_line.ensures _ _ _ c.if-c-gt-DEPTH_LIMIT.false few c.if-p.false owns
+    c-line _ _ _ _ _ _ c.requires.good_loading _ _ _ c.if-c-gt-DEPTH_LIMIT.false few c.if-p.false owns
     (mode ∙ c.if-not-takes_text.false) c.add_text.ensures (rw c.text_count-n.ensures at c.append_item.ensures)

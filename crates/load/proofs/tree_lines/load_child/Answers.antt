@@ -17,7 +17,7 @@ use Rattle.load.proofs.tree_lines.load_child.Goals as goal
 pub returns-in_default : goal.returns-in_default
 returns-in_default c =
     let alone = owner-told c.args.p c.args.schema.now c.args.elements.now c.args.model.now c.args.c.depth _ _ c.owner.ensures c.in_default.is in
-    line_refused _ _ _ _ _ _ 3 c.refuse.ensures c.requires.good_loading
+    line_refused c.requires.good_loading
     (child-alone _ _ _ _ alone)
 
 pub element_type-t-requires : goal.element_type-t-requires
@@ -28,7 +28,7 @@ element_type-t-requires c =
 pub returns-in_default-row_of_name : goal.returns-in_default-row_of_name
 returns-in_default-row_of_name c =
     let owns = owner-told c.args.p c.args.schema.now c.args.elements.now c.args.model.now c.args.c.depth _ _ c.owner.ensures c.in-Of.is in
-    line_refused _ _ _ _ _ _ 3 c.refuse-in_default-row_of_name.ensures c.requires.good_loading
+    line_refused c.requires.good_loading
     (child-unknown _ _ _ _ _ owns
     (row-equal _ (sym c.element_type-t.ensures) refl ∙ found-missing c.row_of_name.ensures c.in_default-row_of_name.is))
 
@@ -39,7 +39,7 @@ returns-then-not-set_rule c =
     row-equal _ (sym c.element_type-t.ensures) refl ∙ found-at c.row_of_name.ensures c.in-At.is
     in
     let owns = owner-told c.args.p c.args.schema.now c.args.elements.now c.args.model.now c.args.c.depth _ _ c.owner.ensures c.in-Of.is in
-    line_refused _ _ _ _ _ _ 3 c.refuse-then-not-set_rule.ensures c.requires.good_loading
+    line_refused c.requires.good_loading
     (child-barred _ _ _ _ _ owns _ found (sym (c.set_rule.ensures _ _) ∙ c.if-not-set_rule.true))
 
 pub row_child-requires : goal.row_child-requires
@@ -71,7 +71,7 @@ returns c =
     row-equal _ (sym c.element_type-t.ensures) refl ∙ found-at c.row_of_name.ensures c.in-At.is
     in
     let owns = owner-told c.args.p c.args.schema.now c.args.elements.now c.args.model.now c.args.c.depth _ _ c.owner.ensures c.in-Of.is in
-    child-line _ _ _ _ _ c.requires.good_loading c.take_line.ensures.0 _ _ _ _ _ _ _ _ _ (c.take_line.ensures.1 ∙ c.open_element.ensures)
+    child-line _ _ _ _ c.requires.good_loading _ _ _ _ _ _ _ _ _ _ c.open_element.ensures
     c.element_count-e.ensures c.row_child.ensures (omega (arith, c.requires.depth_le_depth_limit)) owns found
     (child-typed _ c.requires.good_loading.fits _ within)
     (sym (c.set_rule.ensures _ _) ∙ c.if-not-set_rule.false) c.add_child.ensures.holds_elements c.add_child.ensures.holds_model

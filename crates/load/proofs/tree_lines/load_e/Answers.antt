@@ -11,17 +11,18 @@ use Rattle.load.proofs.tree_lines.load_e.Goals.{then-c-ne0+else-item_total-ge-IT
 
 pub returns-then-c-gt-DEPTH_LIMIT : goal.returns-then-c-gt-DEPTH_LIMIT
 returns-then-c-gt-DEPTH_LIMIT c =
-    line_refused _ _ _ _ _ _ 4 c.refuse.ensures c.requires (e-deep _ _ _ _ c.if-c-gt-DEPTH_LIMIT.true)
+    line_refused c.requires
+    (e-deep _ _ _ _ c.if-c-gt-DEPTH_LIMIT.true)
 
 pub returns-then-element_count-ge-ELEMENT_LIMIT : goal.returns-then-element_count-ge-ELEMENT_LIMIT
 returns-then-element_count-ge-ELEMENT_LIMIT c =
-    line_refused _ _ _ _ _ _ 4 c.refuse-then-element_count-ge-ELEMENT_LIMIT.ensures c.requires
+    line_refused c.requires
     (e-many _ _ _ _ c.if-c-gt-DEPTH_LIMIT.false (rw c.element_count.ensures at c.if-element_count-ge-ELEMENT_LIMIT.true))
 
 pub returns-then-item_total-ge-ITEM_LIMIT : goal.returns-then-item_total-ge-ITEM_LIMIT
 returns-then-item_total-ge-ITEM_LIMIT c =
     let few = rw c.element_count.ensures at c.if-element_count-ge-ELEMENT_LIMIT.false in
-    line_refused _ _ _ _ _ _ 4 c.refuse-then-item_total-ge-ITEM_LIMIT.ensures c.requires
+    line_refused c.requires
     (e-full _ _ _ _ c.if-c-gt-DEPTH_LIMIT.false few c.if-c-ne0.true (rw c.item_total.ensures at c.if-item_total-ge-ITEM_LIMIT.true))
 
 pub returns-then-p : goal.returns-then-p

@@ -9,28 +9,28 @@ use Rattle.load.proofs.tree_lines.load_root.Goals as goal
 
 pub returns-then-c-ne0 : goal.returns-then-c-ne0
 returns-then-c-ne0 c =
-    line_refused _ _ _ _ _ _ 3 c.refuse.ensures c.requires.good_loading
+    line_refused c.requires.good_loading
     (root-deep _ _ _ _ c.if-c-ne0.true)
 
 pub returns-then-n-ne0 : goal.returns-then-n-ne0
 returns-then-n-ne0 c =
-    line_refused _ _ _ _ _ _ 3 c.refuse-then-n-ne0.ensures c.requires.good_loading
+    line_refused c.requires.good_loading
     (root-named _ _ _ _ c.if-c-ne0.false c.if-n-ne0.true)
 
 pub returns-then-not-type_declared : goal.returns-then-not-type_declared
 returns-then-not-type_declared c =
-    line_refused _ _ _ _ _ _ 2 c.refuse-then-not-type_declared.ensures c.requires.good_loading
+    line_refused c.requires.good_loading
     (root-untyped _ _ _ _ c.if-c-ne0.false c.if-n-ne0.false (sym c.type_declared.ensures ∙ c.if-not-type_declared.true))
 
 pub returns-then-not-root_set_rule : goal.returns-then-not-root_set_rule
 returns-then-not-root_set_rule c =
     let typed : declared_type (schema_of c.args.schema.now) 0 ≡ true = sym c.type_declared.ensures ∙ c.if-not-type_declared.false in
-    line_refused _ _ _ _ _ _ 3 c.refuse-then-not-root_set_rule.ensures c.requires.good_loading
+    line_refused c.requires.good_loading
     (root-barred _ _ _ _ c.if-c-ne0.false c.if-n-ne0.false typed (sym (c.root_set_rule.ensures _ _) ∙ c.if-not-root_set_rule.true))
 
 pub returns : goal.returns
 returns c =
     let typed : declared_type (schema_of c.args.schema.now) 0 ≡ true = sym c.type_declared.ensures ∙ c.if-not-type_declared.false in
-    root_line _ _ _ _ _ c.requires.good_loading c.take_line.ensures.0 _ _ _ _ _ _ (c.take_line.ensures.1 ∙ c.open_element.ensures)
+    root_line _ _ _ _ c.requires.good_loading _ _ _ _ _ _ _ c.open_element.ensures
     c.element_count-e.ensures c.if-c-ne0.false c.if-n-ne0.false typed
     (sym (c.root_set_rule.ensures _ _) ∙ c.if-not-root_set_rule.false) c.add_element_row.ensures c.add_element.ensures
