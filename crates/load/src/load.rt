@@ -109,19 +109,14 @@ fn read_lines(
 }
 
 // No table of a wrong size.
+#[tactic(auto, unfolding(crate::specs::LoadCall::sizes_fit))]
 fn sizes_fit(schema: &[u64], elements: &[u64], model: &[u64], log: &[u64]) -> bool
     ensures { result ≡ sizes_fit (tables_of schema.now elements.now model.now log.now) }
 {
-    if schema.len() != SCHEMA_SIZE {
-        return false;
-    }
-    if elements.len() != ELEMENTS_SIZE {
-        return false;
-    }
-    if model.len() != MODEL_SIZE {
-        return false;
-    }
-    log.len() == LOG_SIZE
+    schema.len() == SCHEMA_SIZE
+        && elements.len() == ELEMENTS_SIZE
+        && model.len() == MODEL_SIZE
+        && log.len() == LOG_SIZE
 }
 
 fn clear_all(schema: &mut [u64], elements: &mut [u64], model: &mut [u64])

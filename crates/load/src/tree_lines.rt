@@ -86,19 +86,14 @@ fn has_tree(elements: &[u64], f: FileNumber) -> bool
 }
 
 // The file is declared, outside the root's set, and has no tree yet.
+#[tactic(auto, unfolding(deck::specs::Load::may_wait))]
 fn may_wait(schema: &[u64], elements: &[u64], model: &[u64], f: FileNumber) -> bool
     requires good_schema { GoodSchema schema.now }
     requires good_elements { GoodElements elements.now }
     requires good_model { GoodModel model.now }
     ensures { (p : Progress) → result ≡ may_wait (loading_of p schema.now elements.now model.now) f.0 }
 {
-    if !declares_file(schema, f) {
-        return false;
-    }
-    if loaded_files(model).holds(f) {
-        return false;
-    }
-    !has_tree(elements, f)
+    declares_file(schema, f) && !loaded_files(model).holds(f) && !has_tree(elements, f)
 }
 
 // `B,file`: the root is the next element.
@@ -113,10 +108,7 @@ pub fn load_b(
     requires f_lt_file_limit { f.0 < file_limit }
     ensures { StepResult p result schema.now elements.new model.now (load_b (loading_of p schema.now elements.old model.now) f.0) }
 {
-    if p.due {
-        return Err(Refusal::TreeRule);
-    }
-    if !may_wait(schema, elements, model, f) {
+    if p.due || !may_wait(schema, elements, model, f) {
         return Err(Refusal::TreeRule);
     }
     let root = element_count(elements);
@@ -169,6 +161,7 @@ fn open_element(p: Progress, d: usize, e: usize) -> Progress
 }
 
 // The model root's set is not 0 and names declared files; a waiting root's is 0.
+#[tactic(auto, unfolding(deck::specs::Load::root_set_rule, deck::specs::Load::in_model))]
 fn root_set_rule(schema: &[u64], p: Progress, s: FileSet) -> bool
     requires good_schema { GoodSchema schema.now }
     requires each { Each (λ (d : File). d.file < file_limit) (schema_of schema.now).files }
@@ -177,13 +170,11 @@ fn root_set_rule(schema: &[u64], p: Progress, s: FileSet) -> bool
     if p.latest != Kind::M {
         return s.is_empty();
     }
-    if s.is_empty() {
-        return false;
-    }
-    s.part_of(declared_files(schema))
+    !s.is_empty() && s.part_of(declared_files(schema))
 }
 
 // Other model sets are parts of the root's; waiting sets are 0.
+#[tactic(auto, unfolding(deck::specs::Load::set_rule, deck::specs::Load::in_model))]
 fn set_rule(model: &[u64], p: Progress, s: FileSet) -> bool
     requires { GoodModel model.now }
     ensures { (schema elements : List ℕ) → result ≡ set_rule (loading_of p schema elements model.now) (set_is s) }
@@ -206,11 +197,7 @@ fn load_root(
     requires elements_len_bound { length (elements_of elements.old).names < element_limit }
     ensures { StepResult p result schema.now elements.new model.new (load_root (loading_of p schema.now elements.old model.old) c.depth c.name.0 (set_is c.set)) }
 {
-    let n = c.name;
-    if c.depth != 0 {
-        return Err(Refusal::TreeRule);
-    }
-    if n.0 != 0 {
+    if c.depth != 0 || c.name.0 != 0 {
         return Err(Refusal::TreeRule);
     }
     if !type_declared(schema, TypeNumber(0)) {
@@ -295,10 +282,8 @@ pub fn load_e(
     if ELEMENT_LIMIT <= element_count(elements) {
         return Err(Refusal::Limit);
     }
-    if c.depth != 0 {
-        if ITEM_LIMIT <= item_total(model) {
-            return Err(Refusal::Limit);
-        }
+    if c.depth != 0 && ITEM_LIMIT <= item_total(model) {
+        return Err(Refusal::Limit);
     }
     if p.due {
         return load_root(schema, elements, model, p, c);
@@ -307,6 +292,7 @@ pub fn load_e(
 }
 
 // Mixed and characters.
+#[tactic(auto, unfolding(deck::specs::Load::takes_text))]
 fn takes_text(mode: u64) -> bool
     requires { mode < 5 }
     ensures { result ≡ takes_text (mode_from mode) }

@@ -4,7 +4,7 @@ use mathlib.Core.List.{List, []}
 use Rattle.std.specs.Prelude.{Result, Ok, Err, is_err}
 use mathlib.Core.Path.{◌≡◌, refl, sym, ap, ◌∙◌}
 use Prim.Native.Nat.{ℕ}
-use borrow.Author.Tests.{eqb-true, eq-eqb, ne_eqb}
+use borrow.Author.Tests.{eqb-true}
 use lib.Dec.{eqb}
 use lib.ListN.{length, replicate}
 use Rattle.tables.specs.ElementsTable.{elements_size}
@@ -19,26 +19,6 @@ use Rattle.load.specs.declared.refusals.LoadError.{LoadError}
 use Rattle.load.specs.declared.refusals.Refusal.TheVariants.{WrongSize}
 
 -- ---- sizes
-
-module _ (t : Tables) where
-  pub schema-misfit : (length t.schema ≡ schema_size → ⊥) → sizes_fit t ≡ false
-  unfolding sizes_fit
-  schema-misfit n = rw (ne_eqb (length t.schema) schema_size n)
-
-  pub elements-misfit : length t.schema ≡ schema_size → (length t.elements ≡ elements_size → ⊥) → sizes_fit t ≡ false
-  unfolding sizes_fit
-  elements-misfit s n = rw (eq-eqb (length t.schema) schema_size s, ne_eqb (length t.elements) elements_size n)
-
-  pub model-misfit : length t.schema ≡ schema_size → length t.elements ≡ elements_size → (length t.model ≡ model_size → ⊥) → sizes_fit t ≡ false
-  unfolding sizes_fit
-  model-misfit s e n =
-      rw (eq-eqb (length t.schema) schema_size s, eq-eqb (length t.elements) elements_size e, ne_eqb (length t.model) model_size n)
-
-  pub log-decides : length t.schema ≡ schema_size → length t.elements ≡ elements_size → length t.model ≡ model_size
-      → sizes_fit t ≡ eqb (length t.log) log_size
-  unfolding sizes_fit
-  log-decides s e m =
-      rw (eq-eqb (length t.schema) schema_size s, eq-eqb (length t.elements) elements_size e, eq-eqb (length t.model) model_size m)
 
 pub record Fit (t : Tables) : Type 0 where
   pub schema_fits : length t.schema ≡ schema_size

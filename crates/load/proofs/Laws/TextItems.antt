@@ -4,7 +4,7 @@ use mathlib.Core.List.{List, [], ◌∷◌}
 use mathlib.Core.Option.{none, some}
 use Rattle.std.specs.Prelude.{Ok}
 use mathlib.Core.Path.{◌≡◌, refl, sym, ap, ◌∙◌}
-use Prim.Native.Nat.{ℕ, zero, suc, ◌≤◌, ◌<◌}
+use Prim.Native.Nat.{ℕ, ◌≤◌, ◌<◌}
 use native.Mathlib.Omega.{arith}
 use borrow.Author.Tests.{le-leb, lt-leb, lt-ltb, le-ltb}
 use lib.Dec.{leb, ltb}
@@ -24,15 +24,6 @@ use Rattle.load.proofs.Laws.Steps.{line_taken}
 use Rattle.load.proofs.Laws.Results.{passes, fails, finds, misses}
 
 -- ---- modes with text
-
-pub text-modes : (n : ℕ) → n < 5 → ltb 2 n ≡ takes_text (mode_from n)
-unfolding takes_text
-text-modes zero h = refl
-text-modes (suc zero) h = refl
-text-modes (suc (suc zero)) h = refl
-text-modes (suc (suc (suc zero))) h = refl
-text-modes (suc (suc (suc (suc zero)))) h = refl
-text-modes (suc (suc (suc (suc (suc n))))) h = absurd (omega arith)
 
 pub mode-below : (m : Mode) → mode_number m < 5
 unfolding mode_number

@@ -5,15 +5,11 @@ use Rattle.std.specs.Prelude.{Ok}
 use mathlib.Core.Path.{◌≡◌, refl, ap, ◌∙◌}
 use Prim.Native.Nat.{ℕ, ◌<◌}
 use native.Mathlib.Omega.{arith}
-use borrow.Author.Tests.{le-leb, lt-leb, lt-ltb, le-ltb, eq-eqb, ne_eqb}
-use lib.Dec.{eqb}
+use borrow.Author.Tests.{le-leb, lt-leb, lt-ltb, le-ltb}
 use lib.ListN.{length}
-use Rattle.tables.specs.FileSets.{no_set, holds, part_of, loaded_files}
 use Rattle.tables.specs.Limits.{file_limit}
-use Rattle.tables.specs.Lists.{any_of}
-use Rattle.tables.specs.Records.{FileNumber, FileSet, Tree, Elements, add_tree}
-use Rattle.deck.specs.Load.{Loading, ok, refused, form, tree_rule, kind_m, kind_b, open_tree, load_m, may_wait, load_b, in_model, root_set_rule, set_rule}
-use Rattle.deck.specs.Schema.{declares_file, declared_files}
+use Rattle.tables.specs.Records.{FileNumber, Tree, Elements, add_tree}
+use Rattle.deck.specs.Load.{Loading, ok, refused, form, tree_rule, kind_m, kind_b, open_tree, load_m, may_wait, load_b}
 use Rattle.deck.proofs.Laws.Load.{wait-new}
 use Rattle.tables.specs.ElementsTable.{elements_of, HoldsElements}
 use Rattle.load.specs.Lines.{kind_number, loading_of, LoadingFits, GoodLoading, StepResult}
@@ -59,19 +55,6 @@ module _ (l : Loading) where
   -- ---- B
 
   module _ (f : FileNumber) where
-    pub wait-undeclared : declares_file l.schema f ≡ false → may_wait l f ≡ false
-    unfolding may_wait
-    wait-undeclared h = rw h
-
-    pub wait-loaded : declares_file l.schema f ≡ true → holds (loaded_files l.model) f ≡ true → may_wait l f ≡ false
-    unfolding may_wait
-    wait-loaded h k = rw (h, k)
-
-    pub wait-tree : declares_file l.schema f ≡ true → holds (loaded_files l.model) f ≡ false
-        → may_wait l f ≡ not (any_of (λ (t : Tree). eqb t.file f) l.elements.trees)
-    unfolding may_wait
-    wait-tree h k = rw (h, k)
-
     abbrev gate : Bool
     gate = not l.root_due && may_wait l f
 
@@ -117,29 +100,6 @@ module _ (l : Loading) where
           closed = g.closed;
           early = λ h. absurd (omega arith);
         }
-
-  -- ---- sets
-
-  module _ (s : FileSet) where
-    pub root-set-waiting : (l.latest ≡ kind_m → ⊥) → root_set_rule l s ≡ eqb s no_set
-    unfolding root_set_rule in_model
-    root-set-waiting h = rw (root_set_rule, in_model, ne_eqb l.latest kind_m h)
-
-    pub root-set-none : l.latest ≡ kind_m → eqb s no_set ≡ true → root_set_rule l s ≡ false
-    unfolding root_set_rule in_model
-    root-set-none h k = rw (root_set_rule, in_model, eq-eqb l.latest kind_m h, k)
-
-    pub root-set-some : l.latest ≡ kind_m → eqb s no_set ≡ false → root_set_rule l s ≡ part_of s (declared_files l.schema)
-    unfolding root_set_rule in_model
-    root-set-some h k = rw (root_set_rule, in_model, eq-eqb l.latest kind_m h, k)
-
-    pub set-waiting : (l.latest ≡ kind_m → ⊥) → set_rule l s ≡ eqb s no_set
-    unfolding set_rule in_model
-    set-waiting h = rw (set_rule, in_model, ne_eqb l.latest kind_m h)
-
-    pub set-model : l.latest ≡ kind_m → set_rule l s ≡ part_of s (loaded_files l.model)
-    unfolding set_rule in_model
-    set-model h = rw (set_rule, in_model, eq-eqb l.latest kind_m h)
 
 -- ---- the line taken
 

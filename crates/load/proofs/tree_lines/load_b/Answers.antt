@@ -6,16 +6,16 @@ use Rattle.load.specs.Lines.{loading_of}
 use Rattle.load.proofs.Laws.Steps.{line_refused}
 use Rattle.load.proofs.Laws.Trees.{wait-room, b-due, b-barred, b-line}
 use Rattle.load.proofs.tree_lines.load_b.Goals as goal
+use Rattle.load.proofs.tree_lines.load_b.Goals.{then-p-via-then-p, then-p-via-else-p+then-not-may_wait}
 
 pub returns-then-p : goal.returns-then-p
 returns-then-p c =
-    line_refused c.requires.good_loading
-    (b-due _ _ c.if-p.true)
-
-pub returns-then-not-may_wait : goal.returns-then-not-may_wait
-returns-then-not-may_wait c =
-    line_refused c.requires.good_loading
-    (b-barred _ _ c.if-p.false (sym (c.may_wait.ensures c.args.p) ∙ c.if-not-may_wait.true))
+    elim c.then-p.branch [
+      | then-p-via-then-p w ↦ line_refused c.requires.good_loading (b-due _ _ w.if-p.true)
+      | then-p-via-else-p+then-not-may_wait w ↦
+          line_refused c.requires.good_loading
+          (b-barred _ _ w.if-p.false (sym (w.may_wait.ensures c.args.p) ∙ w.if-not-may_wait.true))
+    ]
 
 pub add_tree-requires : goal.add_tree-requires
 add_tree-requires c =

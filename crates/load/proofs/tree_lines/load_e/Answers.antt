@@ -7,7 +7,7 @@ use Rattle.tables.specs.Records.{content_items}
 use Rattle.load.proofs.Laws.Steps.{line_refused, line_as}
 use Rattle.load.proofs.Laws.Elements.{e-deep, e-many, e-full, e-root, e-child, room-root, room-item}
 use Rattle.load.proofs.tree_lines.load_e.Goals as goal
-use Rattle.load.proofs.tree_lines.load_e.Goals.{then-c-ne0+else-item_total-ge-ITEM_LIMIT, else-c-ne0}
+use Rattle.load.proofs.tree_lines.load_e.Goals.{else-c-ne0-via-then-c-ne0+else-item_total-ge-ITEM_LIMIT, else-c-ne0-via-else-c-ne0}
 
 pub returns-then-c-gt-DEPTH_LIMIT : goal.returns-then-c-gt-DEPTH_LIMIT
 returns-then-c-gt-DEPTH_LIMIT c =
@@ -31,9 +31,9 @@ returns-then-p c =
     let d = c.args.c.depth in
     let n = content_items (model_of c.args.model.now) in
     let room : (eqb d 0 || ltb n item_limit) ≡ true =
-    elim c.if-c-ne0.branch [
-      | then-c-ne0+else-item_total-ge-ITEM_LIMIT w ↦ room-item d n (rw w.item_total.ensures at w.if-item_total-ge-ITEM_LIMIT.false)
-      | else-c-ne0 w ↦ room-root d n w.if-c-ne0.false
+    elim c.else-c-ne0.branch [
+      | else-c-ne0-via-then-c-ne0+else-item_total-ge-ITEM_LIMIT w ↦ room-item d n (rw w.item_total.ensures at w.if-item_total-ge-ITEM_LIMIT.false)
+      | else-c-ne0-via-else-c-ne0 w ↦ room-root d n w.if-c-ne0.false
     ]
     in
     line_as (e-root _ _ _ _ c.if-c-gt-DEPTH_LIMIT.false few room c.if-p.true) c.load_root.ensures
@@ -44,9 +44,9 @@ load_child-requires c =
     let d = c.args.c.depth in
     let n = content_items (model_of c.args.model.now) in
     let room : (eqb d 0 || ltb n item_limit) ≡ true =
-    elim c.if-c-ne0.branch [
-      | then-c-ne0+else-item_total-ge-ITEM_LIMIT w ↦ room-item d n (rw w.item_total.ensures at w.if-item_total-ge-ITEM_LIMIT.false)
-      | else-c-ne0 w ↦ room-root d n w.if-c-ne0.false
+    elim c.else-c-ne0.branch [
+      | else-c-ne0-via-then-c-ne0+else-item_total-ge-ITEM_LIMIT w ↦ room-item d n (rw w.item_total.ensures at w.if-item_total-ge-ITEM_LIMIT.false)
+      | else-c-ne0-via-else-c-ne0 w ↦ room-root d n w.if-c-ne0.false
     ]
     in
     record { good_loading = c.requires; elements_len_bound = few; depth_le_depth_limit = c.if-c-gt-DEPTH_LIMIT.false; item_limit_value = room }
@@ -57,9 +57,9 @@ returns c =
     let d = c.args.c.depth in
     let n = content_items (model_of c.args.model.now) in
     let room : (eqb d 0 || ltb n item_limit) ≡ true =
-    elim c.if-c-ne0.branch [
-      | then-c-ne0+else-item_total-ge-ITEM_LIMIT w ↦ room-item d n (rw w.item_total.ensures at w.if-item_total-ge-ITEM_LIMIT.false)
-      | else-c-ne0 w ↦ room-root d n w.if-c-ne0.false
+    elim c.else-c-ne0.branch [
+      | else-c-ne0-via-then-c-ne0+else-item_total-ge-ITEM_LIMIT w ↦ room-item d n (rw w.item_total.ensures at w.if-item_total-ge-ITEM_LIMIT.false)
+      | else-c-ne0-via-else-c-ne0 w ↦ room-root d n w.if-c-ne0.false
     ]
     in
     line_as (e-child _ _ _ _ c.if-c-gt-DEPTH_LIMIT.false few room c.if-p.false) c.load_child.ensures
