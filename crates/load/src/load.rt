@@ -16,7 +16,7 @@ use crate::refusals::{LoadError, Refusal};
 use crate::schema_lines::{load_f, load_g, load_s, load_t};
 use crate::tree_lines::{load_b, load_c, load_e, load_m};
 use deck::lines::Line;
-use deck::reader::{NextLine, line_from};
+use deck::reader::line_from;
 use tables::elements::ELEMENTS_SIZE;
 use tables::limits::DECK_LIMIT;
 use tables::log::LOG_SIZE;
@@ -29,12 +29,15 @@ fn load_line(
     elements: &mut [u64],
     model: &mut [u64],
     p: Progress,
-    line: Line,
+    line: Option<Line>,
 ) -> Result<Progress, Refusal>
     requires good_loading { GoodLoading p schema.old elements.old model.old }
     requires line_fits { line_fits line }
     ensures { StepResult p result schema.new elements.new model.new (line_result (loading_of p schema.old elements.old model.old) (line_is line)) }
 {
+    let Some(line) = line else {
+        return Err(Refusal::Form);
+    };
     match line {
         Line::T(c) => load_t(schema, p, c),
         Line::G(c) => load_g(schema, p, c),
@@ -44,7 +47,6 @@ fn load_line(
         Line::B(f) => load_b(schema, elements, model, p, f),
         Line::E(c) => load_e(schema, elements, model, p, c),
         Line::C(c) => load_c(schema, elements, model, p, c),
-        Line::Bad => Err(Refusal::Form),
     }
 }
 
@@ -92,18 +94,18 @@ fn read_lines(
     let mut n: u64 = 0;
     while at < deck.len() {
         let number = n + 1;
-        let NextLine::Whole(line, behind) = line_from(deck, at) else {
+        let Some(next) = line_from(deck, at) else {
             return Err(LoadError {
                 refusal: Refusal::Form,
                 line: number,
             });
         };
-        p = load_line(schema, elements, model, p, line).map_err(|refusal| LoadError {
+        p = load_line(schema, elements, model, p, next.line).map_err(|refusal| LoadError {
             refusal,
             line: number,
         })?;
         n = number;
-        at = behind;
+        at = next.behind;
     }
     finish(p, n)
 }

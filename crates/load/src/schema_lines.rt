@@ -31,7 +31,7 @@ fn after(p: Progress, kind: Kind) -> Progress
 // `T,type,mode,named,split`: types run from 0.
 pub fn load_t(schema: &mut [u64], p: Progress, c: TypeCells) -> Result<Progress, Refusal>
     requires good_schema { GoodSchema schema.old }
-    requires mode_bound { (c.mode < 5) × (c.named < 2) }
+    requires mode_bound { c.mode < 5 }
     ensures { (elements model : List ℕ) → GoodLoading p schema.old elements model → StepResult p result schema.new elements model (load_t (loading_of p schema.old elements model) c.ty.0 (type_is c)) }
 {
     let t = c.ty;
@@ -44,7 +44,7 @@ pub fn load_t(schema: &mut [u64], p: Progress, c: TypeCells) -> Result<Progress,
     if TYPE_LIMIT <= t.0 {
         return Err(Refusal::Limit);
     }
-    add_type(schema, c.mode, c.named == 1, c.split);
+    add_type(schema, c.mode, c.named, c.split);
     Ok(after(p, Kind::T))
 }
 
@@ -72,7 +72,7 @@ pub fn load_g(schema: &mut [u64], p: Progress, c: GroupCells) -> Result<Progress
 // `S,type,path,name,child,mult,mask`
 pub fn load_s(schema: &mut [u64], p: Progress, c: RowCells) -> Result<Progress, Refusal>
     requires good_schema { GoodSchema schema.old }
-    requires mult_bound { (c.mult < 3) × PathFits c.path }
+    requires path_fits { PathFits c.path }
     requires paths_closed { PathsClosed (schema_of schema.old) }
     ensures { (elements model : List ℕ) → GoodLoading p schema.old elements model → StepResult p result schema.new elements model (load_s (loading_of p schema.old elements model) (row_is c)) }
 {

@@ -10,7 +10,7 @@ ghost use Rattle.tables.specs.ElementsTable.{elements_of, GoodElements, HoldsEle
 ghost use Rattle.tables.specs.ModelTable.{parent_is, item_is, count_of, model_of, ItemBelow, GoodModel, HoldsModel};
 ghost use Rattle.tables.specs.SchemaTable.{schema_of, GoodSchema, mode_from};
 ghost use Rattle.tables.specs.SetCells.{set_is};
-ghost use Rattle.tables.specs.Texts.{text_from};
+ghost use Rattle.tables.specs.Texts.{stored_is, StoredFits};
 ghost use Rattle.deck.specs.Load.{Loading, load_m, may_wait, load_b, owner, root_set_rule, set_rule, append, load_root, load_child, load_e, takes_text, load_c};
 ghost use Rattle.load.specs.Lines.{loading_of, open_limit, GoodLoading, StepResult};
 ghost use Rattle.load.specs.declared.progress.Progress.{Progress};
@@ -18,7 +18,7 @@ ghost use Rattle.load.specs.declared.progress.Progress.{Progress};
 use crate::progress::{Kind, Progress};
 use crate::refusals::Refusal;
 use deck::lines::{ElementCells, TextCells};
-use schema_calls::calls::{Found, row_of_name};
+use schema_calls::calls::row_of_name;
 use schema_calls::files::{declared_files, declares_file};
 use schema_calls::rules::type_declared;
 use tables::elements::{
@@ -28,7 +28,7 @@ use tables::elements::{
 use tables::file_set::FileSet;
 use tables::limits::{DEPTH_LIMIT, ELEMENT_LIMIT, ITEM_LIMIT};
 use tables::model::{
-    Item, Parent, add_element, count, insert_item, item_total, list_length, set_of,
+    Item, add_element, count, insert_item, item_total, list_length, set_of,
 };
 use tables::numbers::{Element, FileNumber, Name, TypeNumber};
 use tables::schema::{row_child, type_mode};
@@ -117,19 +117,19 @@ pub fn load_b(
 }
 
 // The latest E one level up, if no E of smaller depth came between.
-fn owner(p: Progress, d: u64) -> Parent
+fn owner(p: Progress, d: u64) -> Option<Element>
     requires { (p.depth ≤ open_limit) × (length p.above ≡ open_limit) }
     ensures { (l : Loading) → l.above ≡ take p.depth p.above → parent_is result ≡ owner l d }
 {
     let n = p.depth as u64;
     if d == 0 {
-        return Parent::Missing;
+        return None;
     }
     if n < d {
-        return Parent::Missing;
+        return None;
     }
     let i = (d - 1) as usize;
-    Parent::Of(Element(p.above[i]))
+    Some(Element(p.above[i]))
 }
 
 // The item at the end of the element's list.
@@ -208,7 +208,7 @@ fn load_root(
     }
     let e = element_count(elements);
     add_element_row(elements, Name(0), TypeNumber(0), 0);
-    add_element(model, Parent::Missing, c.set);
+    add_element(model, None, c.set);
     Ok(open_element(p, 0, e))
 }
 
@@ -231,7 +231,7 @@ fn add_child(
 {
     let e = element_count(elements);
     add_element_row(elements, c.name, t, c.depth);
-    add_element(model, Parent::Of(owner), c.set);
+    add_element(model, Some(owner), c.set);
     append_item(model, owner, Item::Child(Element(e)));
 }
 
@@ -249,11 +249,11 @@ fn load_child(
     requires item_limit_value { (eqb c.depth 0 || ltb (content_items (model_of model.old)) item_limit) ≡ true }
     ensures { StepResult p result schema.now elements.new model.new (load_child (loading_of p schema.now elements.old model.old) c.depth c.name.0 (set_is c.set)) }
 {
-    let Parent::Of(o) = owner(p, c.depth) else {
+    let Some(o) = owner(p, c.depth) else {
         return Err(Refusal::TreeRule);
     };
     let t = element_type(elements, o);
-    let Found::At(i) = row_of_name(schema, t, c.name) else {
+    let Some(i) = row_of_name(schema, t, c.name) else {
         return Err(Refusal::TreeRule);
     };
     if !set_rule(model, p, c.set) {
@@ -309,8 +309,8 @@ pub fn load_c(
     c: TextCells,
 ) -> Result<Progress, Refusal>
     requires good_loading { GoodLoading p schema.now elements.old model.old }
-    requires kind_bound { c.kind < 4 }
-    ensures { StepResult p result schema.now elements.new model.new (load_c (loading_of p schema.now elements.old model.old) c.depth (text_from c.kind c.value)) }
+    requires stored_fits { StoredFits c.text }
+    ensures { StepResult p result schema.now elements.new model.new (load_c (loading_of p schema.now elements.old model.old) c.depth (stored_is c.text)) }
 {
     if DEPTH_LIMIT < c.depth {
         return Err(Refusal::Limit);
@@ -321,7 +321,7 @@ pub fn load_c(
     if p.due {
         return Err(Refusal::TreeRule);
     }
-    let Parent::Of(o) = owner(p, c.depth) else {
+    let Some(o) = owner(p, c.depth) else {
         return Err(Refusal::TreeRule);
     };
     let t = element_type(elements, o);
@@ -329,7 +329,7 @@ pub fn load_c(
         return Err(Refusal::TreeRule);
     }
     let n = text_count(elements);
-    add_text(elements, c.kind, c.value);
+    add_text(elements, c.text);
     append_item(model, o, Item::Text(n));
     Ok(p)
 }

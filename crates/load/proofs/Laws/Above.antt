@@ -11,7 +11,8 @@ use lib.Seq.{take-suc-set}
 use Rattle.tables.specs.Cells.{Each}
 use Rattle.tables.specs.Records.{Element}
 use Rattle.tables.specs.ModelTable.{parent_is}
-use Rattle.tables.specs.declared.model.Parent.{Parent}
+use Rattle.std.specs.Prelude as program_option
+use Rattle.tables.specs.declared.numbers.Element as program_element
 use Rattle.deck.specs.Load.{Loading, owner}
 use Rattle.load.specs.Lines.{loading_of}
 use Rattle.load.specs.declared.progress.Progress.{Progress}
@@ -68,7 +69,7 @@ module _ (l : Loading) where
   owner-deep d p h z = none-ne-some p (owner-root d z ∙ h)
 
 -- the owner that the program found
-pub owner-told : (p : Progress) (schema elements model : List ℕ) (d : ℕ) (r q : Parent)
+pub owner-told : (p : Progress) (schema elements model : List ℕ) (d : ℕ) (r q : program_option.Option program_element.Element)
     → ((l : Loading) → l.above ≡ take p.depth p.above → parent_is r ≡ owner l d) → r ≡ q
     → owner (loading_of p schema elements model) d ≡ parent_is q
 owner-told p schema elements model d r q f e = sym (f (loading_of p schema elements model) refl) ∙ ap parent_is e

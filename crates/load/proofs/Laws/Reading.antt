@@ -28,6 +28,7 @@ use Rattle.load.specs.declared.progress.Kind.TheVariants.{T}
 use Rattle.load.specs.declared.refusals.LoadError.{LoadError}
 use Rattle.load.specs.declared.refusals.Refusal.{Refusal}
 use Rattle.load.specs.declared.refusals.Refusal.TheVariants.{Form, TreeRule, Limit}
+use Rattle.std.specs.Prelude as program_option
 use Rattle.deck.specs.declared.lines.Line as program
 
 -- ---- before the first line
@@ -121,7 +122,7 @@ module _ (deck : List ℕ) (p : Progress) (at n : ℕ) (schema elements model : 
         good_model = r.good.good_model;
       }
 
-  module _ (line : program.Line) (behind : ℕ) (found : LineAt deck at line behind) (s : Result Progress Refusal) (schema' elements' model' : List ℕ)
+  module _ (line : program_option.Option program.Line) (behind : ℕ) (found : LineAt deck at line behind) (s : Result Progress Refusal) (schema' elements' model' : List ℕ)
       (led : StepResult p s schema' elements' model' (line_result (loading_of p schema elements model) (line_is line))) where
     whole : onward deck n (parts 10 behind (drop behind deck)) (step_is s schema' elements' model') ≡ load deck
     whole =

@@ -24,22 +24,22 @@ returns-in_default c =
 
 pub load_line-requires : goal.load_line-requires
 load_line-requires c =
-    let f = rw c.in-Whole.is at c.line_from.ensures in record { good_loading = c.loop-at.invariant.good; line_fits = f.reads.fits }
+    let f = rw c.in-Some.is at c.line_from.ensures in record { good_loading = c.loop-at.invariant.good; line_fits = f.reads.fits }
 
 pub returns-in_err-p : goal.returns-in_err-p
 returns-in_err-p c =
-    let f = rw c.in-Whole.is at c.line_from.ensures in
+    let f = rw c.in-Some.is at c.line_from.ensures in
     reading-refused c.args.deck.now c.loop-at.p c.loop-at.at c.loop-at.n c.loop-at.schema c.loop-at.elements c.loop-at.model
     c.loop-at.invariant _ _ f _ _ _ _ c.load_line.ensures _ (λ q e. search rules) (λ x e. search rules)
 
 pub loop-at-smaller : goal.loop-at-smaller
 loop-at-smaller c =
-    let f = rw c.in-Whole.is at c.line_from.ensures in
+    let f = rw c.in-Some.is at c.line_from.ensures in
     omega (arith, f.next.past, f.is, c.loop-at-test.true)
 
 pub loop-at-preserved : goal.loop-at-preserved
 loop-at-preserved c =
-    let f = rw c.in-Whole.is at c.line_from.ensures in
+    let f = rw c.in-Some.is at c.line_from.ensures in
     reading-taken c.args.deck.now c.loop-at.p c.loop-at.at c.loop-at.n c.loop-at.schema c.loop-at.elements c.loop-at.model
     c.loop-at.invariant _ _ f _ _ _ _ c.load_line.ensures _ (search rules)
 

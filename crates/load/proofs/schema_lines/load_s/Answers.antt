@@ -33,7 +33,7 @@ sub_element_rule-requires c =
       good_schema = c.requires.good_schema;
       above_in_bounds = omega (arith, c.row_count-n.ensures);
       paths_closed = closed;
-      nonzero = c.requires.mult_bound.1;
+      nonzero = c.requires.path_fits;
       repeated_value = c.rows_meet-repeated.ensures;
     }
 
@@ -59,5 +59,5 @@ returns c elements model g =
     c.after.ensures
     g
     c.add_row.ensures
-    (fits-row _ g.fits _ c.requires.mult_bound.1 rule)
+    (fits-row _ g.fits _ c.requires.path_fits rule)
     (s-row _ _ ∙ row-taken _ _ _ _ _ _ early (rw c.row_count-n.ensures at c.if-n-ge-ROW_LIMIT.false) rule)

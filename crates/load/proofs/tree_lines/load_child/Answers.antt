@@ -22,34 +22,34 @@ returns-in_default c =
 
 pub element_type-t-requires : goal.element_type-t-requires
 element_type-t-requires c =
-    let owns = owner-told c.args.p c.args.schema.now c.args.elements.now c.args.model.now c.args.c.depth _ _ c.owner.ensures c.in-Of.is in
+    let owns = owner-told c.args.p c.args.schema.now c.args.elements.now c.args.model.now c.args.c.depth _ _ c.owner.ensures c.in-Some.is in
     record { good_elements = c.requires.good_loading.good_elements; e_in_bounds = owner-element _ _ _ _ c.requires.good_loading.fits.opened owns }
 
 pub returns-in_default-row_of_name : goal.returns-in_default-row_of_name
 returns-in_default-row_of_name c =
-    let owns = owner-told c.args.p c.args.schema.now c.args.elements.now c.args.model.now c.args.c.depth _ _ c.owner.ensures c.in-Of.is in
+    let owns = owner-told c.args.p c.args.schema.now c.args.elements.now c.args.model.now c.args.c.depth _ _ c.owner.ensures c.in-Some.is in
     line_refused c.requires.good_loading
     (child-unknown _ _ _ _ _ owns
     (row-equal _ (sym c.element_type-t.ensures) refl ∙ found-missing c.row_of_name.ensures c.in_default-row_of_name.is))
 
 pub returns-then-not-set_rule : goal.returns-then-not-set_rule
 returns-then-not-set_rule c =
-    let found : row_of_name (schema_of c.args.schema.now) (get_or (elements_of c.args.elements.now).types c.in-Of.o.0 0) c.args.c.name.0
-    ≡ some (get_or (schema_of c.args.schema.now).sub_elements c.in-At.i no_sub_element) =
-    row-equal _ (sym c.element_type-t.ensures) refl ∙ found-at c.row_of_name.ensures c.in-At.is
+    let found : row_of_name (schema_of c.args.schema.now) (get_or (elements_of c.args.elements.now).types c.in-Some.o.0 0) c.args.c.name.0
+    ≡ some (get_or (schema_of c.args.schema.now).sub_elements c.in-Some-row_of_name.i no_sub_element) =
+    row-equal _ (sym c.element_type-t.ensures) refl ∙ found-at c.row_of_name.ensures c.in-Some-row_of_name.is
     in
-    let owns = owner-told c.args.p c.args.schema.now c.args.elements.now c.args.model.now c.args.c.depth _ _ c.owner.ensures c.in-Of.is in
+    let owns = owner-told c.args.p c.args.schema.now c.args.elements.now c.args.model.now c.args.c.depth _ _ c.owner.ensures c.in-Some.is in
     line_refused c.requires.good_loading
     (child-barred _ _ _ _ _ owns _ found (sym (c.set_rule.ensures _ _) ∙ c.if-not-set_rule.true))
 
 pub row_child-requires : goal.row_child-requires
 row_child-requires c =
-    let within : c.in-At.i < length (schema_of c.args.schema.now).sub_elements = found_within c.row_of_name.ensures c.in-At.is in
+    let within : c.in-Some-row_of_name.i < length (schema_of c.args.schema.now).sub_elements = found_within c.row_of_name.ensures c.in-Some-row_of_name.is in
     record { good_schema = c.requires.good_loading.good_schema; i_in_bounds = within }
 
 pub add_child-requires : goal.add_child-requires
 add_child-requires c =
-    let owns = owner-told c.args.p c.args.schema.now c.args.elements.now c.args.model.now c.args.c.depth _ _ c.owner.ensures c.in-Of.is in
+    let owns = owner-told c.args.p c.args.schema.now c.args.elements.now c.args.model.now c.args.c.depth _ _ c.owner.ensures c.in-Some.is in
     let h = owner-element _ _ _ _ c.requires.good_loading.fits.opened owns in
     record {
       good_elements = c.requires.good_loading.good_elements;
@@ -65,12 +65,12 @@ open_element-requires c = record { d_lt_open_limit = omega (arith, c.requires.de
 
 pub returns : goal.returns
 returns c =
-    let within : c.in-At.i < length (schema_of c.args.schema.now).sub_elements = found_within c.row_of_name.ensures c.in-At.is in
-    let found : row_of_name (schema_of c.args.schema.now) (get_or (elements_of c.args.elements.now).types c.in-Of.o.0 0) c.args.c.name.0
-    ≡ some (get_or (schema_of c.args.schema.now).sub_elements c.in-At.i no_sub_element) =
-    row-equal _ (sym c.element_type-t.ensures) refl ∙ found-at c.row_of_name.ensures c.in-At.is
+    let within : c.in-Some-row_of_name.i < length (schema_of c.args.schema.now).sub_elements = found_within c.row_of_name.ensures c.in-Some-row_of_name.is in
+    let found : row_of_name (schema_of c.args.schema.now) (get_or (elements_of c.args.elements.now).types c.in-Some.o.0 0) c.args.c.name.0
+    ≡ some (get_or (schema_of c.args.schema.now).sub_elements c.in-Some-row_of_name.i no_sub_element) =
+    row-equal _ (sym c.element_type-t.ensures) refl ∙ found-at c.row_of_name.ensures c.in-Some-row_of_name.is
     in
-    let owns = owner-told c.args.p c.args.schema.now c.args.elements.now c.args.model.now c.args.c.depth _ _ c.owner.ensures c.in-Of.is in
+    let owns = owner-told c.args.p c.args.schema.now c.args.elements.now c.args.model.now c.args.c.depth _ _ c.owner.ensures c.in-Some.is in
     child-line _ _ _ _ c.requires.good_loading _ _ _ _ _ _ _ _ _ _ c.open_element.ensures
     c.element_count-e.ensures c.row_child.ensures (omega (arith, c.requires.depth_le_depth_limit)) owns found
     (child-typed _ c.requires.good_loading.fits _ within)
