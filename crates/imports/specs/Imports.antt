@@ -1,5 +1,5 @@
 -- Imports into places that are made for them, and imports that are put in together. Assumes nothing.
-use Rattle.std.specs.Prelude.{Bool, true, List, ◌∷◌, ◌≡◌, ℕ, ◌+◌, ◌-◌, ◌≤◌, ◌<◌, length}
+use Rattle.std.specs.Prelude.{Result, Ok, Bool, true, List, ◌∷◌, ◌≡◌, ℕ, ◌+◌, ◌-◌, ◌≤◌, ◌<◌, length}
 use Rattle.std.proofs.Math.Option.{some}
 use Rattle.tables.specs.FileSets.{with_file}
 use Rattle.tables.specs.Limits.{item_limit}
@@ -12,8 +12,7 @@ use Rattle.merge_rules.specs.Import.{clamp, import_single_item}
 use Rattle.pairing.specs.Plans.{row_value}
 use Rattle.merge_log.specs.Answers.{outcome_is}
 use Rattle.merge_log.specs.declared.log.Run.{Run}
-use Rattle.merge_log.specs.declared.refusals.Outcome as step
-use Rattle.merge_log.specs.declared.refusals.Outcome.TheVariants.{Done}
+use Rattle.merge_log.specs.declared.refusals.Halt.{Halt}
 
 -- ---- one element
 
@@ -31,12 +30,12 @@ abbrev pub state_without : Element → ℕ → ℕ → List ℕ → List ℕ →
 state_without p i k m l = record { model = remove_items (model_of m) p i k; log = log_of l }
 
 -- the run's first place takes e: its import into the list without the run
-pub record ImportsInto (schema elements : List ℕ) (f : FileNumber) (v : ℕ) (r : Run) (e : Element) (o : step.Outcome) (m l m' l' : List ℕ) : Type 0 where
+pub record ImportsInto (schema elements : List ℕ) (f : FileNumber) (v : ℕ) (r : Run) (e : Element) (o : Result (Unit {0}) Halt) (m l m' l' : List ℕ) : Type 0 where
   pub is : (deck : List ℕ) (wanted : ℕ) → clamp wanted 0 (length (list_of (model_of m) r.p.0) - r.k) ≡ r.i
       → outcome_is o (state_without r.p.0 (r.i + 1) (r.k - 1) m' l')
       ≡ import_single_item (fixed_in deck schema elements) f v r.p.0 e wanted (state_without r.p.0 r.i r.k m l)
   -- no conflict: an answer that is not done brings no state
-  pub stateless : (s t : State) → (o ≡ Done → ⊥) → outcome_is o s ≡ outcome_is o t
+  pub stateless : (s t : State) → (o ≡ Ok tt → ⊥) → outcome_is o s ≡ outcome_is o t
   pub long : length (list_of (model_of m') r.p.0) ≡ length (list_of (model_of m) r.p.0)
   pub keeps : KeepsState m l m' l'
 

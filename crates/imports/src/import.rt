@@ -16,9 +16,9 @@ ghost use Rattle.merge_log.specs.Runs.{RunIn};
 ghost use Rattle.pairing.specs.Plans.{spread, import_in, plan_in, RowsIn};
 ghost use Rattle.table_test.specs.Fits.{ModelOver, LogFits, KeepsState};
 
-use insert_range::range::{Range, calc_element_insert_range, takes_any_place};
+use insert_range::range::{Unplaced, calc_element_insert_range, takes_any_place};
 use merge_log::log::Run;
-use merge_log::refusals::{Outcome, Refusal};
+use merge_log::refusals::{Halt, Refusal};
 use schema_calls::calls::{Found, find_sub_element};
 use tables::elements::{element_name, element_type};
 use tables::limits::{ITEM_LIMIT, LOG_LIMIT};
@@ -56,7 +56,7 @@ pub fn import_at(
     p: Element,
     e: Element,
     at: usize,
-) -> Outcome
+) -> Result<(), Halt>
     requires good_model { GoodModel model.old }
     requires good_log { GoodLog log.old }
     requires p_bound { p.0 < count_of (model_of model.old) }
@@ -67,30 +67,21 @@ pub fn import_at(
     ensures keeps_state { KeepsState model.old log.old model.new log.new }
 {
     if LOG_LIMIT <= log_length(log) {
-        return Outcome::Refused(Refusal::LogFull);
+        return Err(Halt::Refused(Refusal::LogFull));
     }
     if ITEM_LIMIT <= item_total(model) {
-        return Outcome::Refused(Refusal::ContentFull);
+        return Err(Halt::Refused(Refusal::ContentFull));
     }
     insert_items(model, p, at, 1, Item::Child(e));
     enter(model, log, f, p, e, at);
-    Outcome::Done
+    Ok(())
 }
 
 // The wanted place, not before the first and not behind the last.
 pub fn clamp(wanted: usize, first: usize, last: usize) -> usize
     ensures { result ≡ clamp wanted first last }
 {
-    if wanted < first {
-        if last < first {
-            return last;
-        }
-        return first;
-    }
-    if last < wanted {
-        return last;
-    }
-    wanted
+    wanted.max(first).min(last)
 }
 
 // The range of p for the element's name decides: its place, 7, or a conflict.
@@ -104,7 +95,7 @@ pub fn import_single_item(
     p: Element,
     e: Element,
     wanted: usize,
-) -> Outcome
+) -> Result<(), Halt>
     requires good_schema { GoodSchema schema.now }
     requires good_elements { GoodElements elements.now }
     requires each { Each (λ (t : ℕ). t < length (schema_of schema.now).types) (elements_of elements.now).types }
@@ -120,12 +111,12 @@ pub fn import_single_item(
     let n = element_name(elements, e);
     let r = calc_element_insert_range(schema, elements, model, p, n, v);
     match r {
-        Range::Places(first, last) => {
-            let at = clamp(wanted, first, last);
+        Ok(places) => {
+            let at = clamp(wanted, places.first, places.last);
             import_at(model, log, f, p, e, at)
         }
-        Range::NoRow => Outcome::Refused(Refusal::NotInVersion(p, n)),
-        Range::Conflicting => Outcome::Conflict(p),
+        Err(Unplaced::NoRow) => Err(Halt::Refused(Refusal::NotInVersion(p, n))),
+        Err(Unplaced::Conflicting) => Err(Halt::Conflict(p)),
     }
 }
 
@@ -139,7 +130,7 @@ fn import_into(
     v: u64,
     r: Run,
     e: Element,
-) -> Outcome
+) -> Result<(), Halt>
     requires good_schema { GoodSchema schema.now }
     requires good_elements { GoodElements elements.now }
     requires each { Each (λ (t : ℕ). t < length (schema_of schema.now).types) (elements_of elements.now).types }
@@ -158,14 +149,14 @@ fn import_into(
     let n = element_name(elements, e);
     let t = element_type(elements, p);
     let Found::At(_) = find_sub_element(schema, t, n, 1u64 << v) else {
-        return Outcome::Refused(Refusal::NotInVersion(p, n));
+        return Err(Halt::Refused(Refusal::NotInVersion(p, n)));
     };
     let entries = log_length(log);
     if LOG_LIMIT <= entries {
-        return Outcome::Refused(Refusal::LogFull);
+        return Err(Halt::Refused(Refusal::LogFull));
     }
     enter(model, log, f, p, e, r.i);
-    Outcome::Done
+    Ok(())
 }
 
 // Rows of the B-only list from i on, as many as the run has places; room is made for all of them at once.
@@ -180,7 +171,7 @@ fn import_run(
     f: FileNumber,
     v: u64,
     r: Run,
-) -> Outcome
+) -> Result<(), Halt>
     requires good_schema { GoodSchema schema.now }
     requires good_elements { GoodElements elements.now }
     requires each { Each (λ (t : ℕ). t < length (schema_of schema.now).types) (elements_of elements.now).types }
@@ -199,8 +190,7 @@ fn import_run(
 {
     let p = r.p;
     insert_items(model, p, r.i, r.k, Item::Child(p));
-    let mut j: usize = 0;
-    while j < r.k {
+    for j in 0..r.k {
         let row = 2 * (na + i + j);
         let e = Element(work[row] as usize);
         let left = Run {
@@ -208,14 +198,9 @@ fn import_run(
             i: r.i + j,
             k: r.k - j,
         };
-        let o = import_into(schema, elements, model, log, f, v, left, e);
-        if let Outcome::Done = o {
-            j += 1;
-        } else {
-            return o;
-        }
+        import_into(schema, elements, model, log, f, v, left, e)?;
     }
-    Outcome::Done
+    Ok(())
 }
 
 // Where row i of the B-only list goes in a list of n items that takes it at any place.
@@ -238,8 +223,7 @@ fn run_length(work: &[u16], na: usize, ni: usize, i: usize, n: usize, room: usiz
     ensures { RunOf work.now na ni i n room result }
 {
     let at = row_place(work, na, i, n);
-    let mut k: usize = 1;
-    while i + k < ni {
+    for k in 1..ni - i {
         if room <= k {
             return k;
         }
@@ -247,9 +231,8 @@ fn run_length(work: &[u16], na: usize, ni: usize, i: usize, n: usize, room: usiz
         if next != at + k {
             return k;
         }
-        k += 1;
     }
-    k
+    ni - i
 }
 
 // k rows of the B-only list from i on: one by itself, or several that go one behind the other.
@@ -265,7 +248,7 @@ fn import_rows(
     f: FileNumber,
     v: u64,
     p: Element,
-) -> Outcome
+) -> Result<(), Halt>
     requires good_schema { GoodSchema schema.now }
     requires good_elements { GoodElements elements.now }
     requires each { Each (λ (t : ℕ). t < length (schema_of schema.now).types) (elements_of elements.now).types }
@@ -338,7 +321,7 @@ pub fn import_new_items(
     f: FileNumber,
     v: u64,
     p: Element,
-) -> Outcome
+) -> Result<(), Halt>
     requires good_schema { GoodSchema schema.now }
     requires good_elements { GoodElements elements.now }
     requires each { Each (λ (t : ℕ). t < length (schema_of schema.now).types) (elements_of elements.now).types }
@@ -355,12 +338,8 @@ pub fn import_new_items(
     let mut i: usize = 0;
     while i < ni {
         let k = rows_together(model, work, na, ni, i, p, any);
-        let r = import_rows(schema, elements, model, log, work, na, i, k, f, v, p);
-        if let Outcome::Done = r {
-            i += k;
-        } else {
-            return r;
-        }
+        import_rows(schema, elements, model, log, work, na, i, k, f, v, p)?;
+        i += k;
     }
-    Outcome::Done
+    Ok(())
 }

@@ -18,19 +18,18 @@ use tables::numbers::{Element, Name, TypeNumber};
 use tables::path::Order;
 use tables::schema::{row_mult, row_name, row_path, type_mode};
 
-// The first and last place; no row of the name in the version; a conflict.
-#[derive(Clone, Copy)]
-pub enum Range {
-    Places(usize, usize),
-    NoRow,
-    Conflicting,
-}
-
-// The first and last place so far.
+// The first and last place, of a range or of the items so far.
 #[derive(Clone, Copy)]
 pub struct Bounds {
     pub first: usize,
     pub last: usize,
+}
+
+// Why there is no place: no row of the name in the version; a conflict.
+#[derive(Clone, Copy, PartialEq, Eq)]
+pub enum Unplaced {
+    NoRow,
+    Conflicting,
 }
 
 // What a content item does to the bounds.
@@ -79,27 +78,27 @@ fn move_by(mode: u64, order: Order, mult: u64, first: usize, index: usize) -> Mo
     }
 }
 
-// How the elements of a name stand to the new one: no row of the name; else the common group's mode, and the new path's order against theirs.
+// How the elements of a name that has a row stand to the new one: the common group's mode, and the new path's order against theirs.
 #[derive(Clone, Copy)]
-pub enum Against {
-    NoRow,
-    Row(u64, Order),
+pub struct Against {
+    pub mode: u64,
+    pub order: Order,
 }
 
-fn compare_name(schema: &[u64], t: TypeNumber, new: usize, n: Name) -> Against
+fn compare_name(schema: &[u64], t: TypeNumber, new: usize, n: Name) -> Option<Against>
     requires good_schema { GoodSchema schema.now }
     requires t_in_bounds { t.0 < length (schema_of schema.now).types }
     requires in_bounds { new < length (schema_of schema.now).sub_elements }
     ensures { Compares schema.now t.0 new n.0 result }
 {
     let Found::At(old) = row_of_name(schema, t, n) else {
-        return Against::NoRow;
+        return None;
     };
     let path = row_path(schema, new);
     let other = row_path(schema, old);
     let mode = find_common_group(schema, t, path, other);
     let order = path.order(other);
-    Against::Row(mode, order)
+    Some(Against { mode, order })
 }
 
 // The name of an item; of a text, the last one.
@@ -115,15 +114,15 @@ fn name_or(elements: &[u64], a: Item, last: Name) -> Name
 }
 
 // The move of an item; a text moves the last place.
-fn move_of(a: Item, against: Against, mult: u64, index: usize, bounds: Bounds) -> Move
+fn move_of(a: Item, against: Option<Against>, mult: u64, index: usize, bounds: Bounds) -> Move
     requires { index < item_limit }
     ensures { move_is result ≡ move_of (item_is a) against mult index bounds }
 {
     let first = bounds.first;
     match a {
         Item::Child(_) => match against {
-            Against::NoRow => Move::To(bounds),
-            Against::Row(mode, order) => move_by(mode, order, mult, first, index),
+            None => Move::To(bounds),
+            Some(x) => move_by(x.mode, x.order, mult, first, index),
         },
         Item::Text(_) => Move::To(Bounds {
             first,
@@ -144,7 +143,7 @@ fn bounds_after(m: Move, bounds: Bounds) -> Bounds
 }
 
 // One content item moves the bounds that are lent.
-fn read_item(a: Item, against: Against, mult: u64, index: usize, bounds: &mut Bounds) -> Move
+fn read_item(a: Item, against: Option<Against>, mult: u64, index: usize, bounds: &mut Bounds) -> Move
     requires { index < item_limit }
     ensures { Moves (item_is a) against mult index bounds.old bounds.new result }
 {
@@ -161,7 +160,7 @@ pub struct Moved {
 }
 
 // The bounds, lent to the step for one item.
-fn lend_bounds(a: Item, against: Against, mult: u64, index: usize, bounds: Bounds) -> Moved
+fn lend_bounds(a: Item, against: Option<Against>, mult: u64, index: usize, bounds: Bounds) -> Moved
     requires { index < item_limit }
     ensures { Moves (item_is a) against mult index bounds result.bounds result.answer }
 {
@@ -174,7 +173,7 @@ fn lend_bounds(a: Item, against: Against, mult: u64, index: usize, bounds: Bound
 }
 
 // The items of p's list in order, against the row of the new name.
-fn read_content(schema: &[u64], elements: &[u64], model: &[u64], p: Element, new: usize) -> Range
+fn read_content(schema: &[u64], elements: &[u64], model: &[u64], p: Element, new: usize) -> Result<Bounds, Unplaced>
     requires good_schema { GoodSchema schema.now }
     requires good_elements { GoodElements elements.now }
     requires each { Each (λ (t : ℕ). t < length (schema_of schema.now).types) (elements_of elements.now).types }
@@ -185,29 +184,25 @@ fn read_content(schema: &[u64], elements: &[u64], model: &[u64], p: Element, new
 {
     let t = element_type(elements, p);
     let mult = row_mult(schema, new);
-    let n = list_length(model, p);
     let mut name = row_name(schema, new);
     let mut against = compare_name(schema, t, new, name);
     let mut bounds = Bounds { first: 0, last: 0 };
-    let mut i: usize = 0;
-    while i < n {
+    for i in 0..list_length(model, p) {
         let a = item_at(model, p, i);
         let next = name_or(elements, a, name);
-        if next.0 != name.0 {
+        if next != name {
             name = next;
             against = compare_name(schema, t, new, name);
         }
         let s = lend_bounds(a, against, mult, i, bounds);
         bounds = s.bounds;
-        let m = s.answer;
-        match m {
-            Move::Stop => return Range::Places(bounds.first, bounds.last),
+        match s.answer {
+            Move::Stop => return Ok(bounds),
             Move::To(_) => {}
-            Move::Clash => return Range::Conflicting,
+            Move::Clash => return Err(Unplaced::Conflicting),
         }
-        i += 1;
     }
-    Range::Places(bounds.first, bounds.last)
+    Ok(bounds)
 }
 
 // Where an element of this name may stand in the list of p.
@@ -218,7 +213,7 @@ pub fn calc_element_insert_range(
     p: Element,
     n: Name,
     v: u64,
-) -> Range
+) -> Result<Bounds, Unplaced>
     requires good_schema { GoodSchema schema.now }
     requires good_elements { GoodElements elements.now }
     requires each { Each (λ (t : ℕ). t < length (schema_of schema.now).types) (elements_of elements.now).types }
@@ -229,13 +224,16 @@ pub fn calc_element_insert_range(
 {
     let t = element_type(elements, p);
     let Found::At(new) = find_sub_element(schema, t, n, 1u64 << v) else {
-        return Range::NoRow;
+        return Err(Unplaced::NoRow);
     };
     let mode = type_mode(schema, t);
     match mode {
         0 | 1 => read_content(schema, elements, model, p, new),
-        2 | 3 => Range::Places(0, list_length(model, p)),
-        _ => Range::NoRow,
+        2 | 3 => Ok(Bounds {
+            first: 0,
+            last: list_length(model, p),
+        }),
+        _ => Err(Unplaced::NoRow),
     }
 }
 
@@ -249,8 +247,5 @@ pub fn takes_any_place(schema: &[u64], elements: &[u64], p: Element) -> bool
 {
     let t = element_type(elements, p);
     let mode = type_mode(schema, t);
-    match mode {
-        2 | 3 => true,
-        _ => false,
-    }
+    matches!(mode, 2 | 3)
 }

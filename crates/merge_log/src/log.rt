@@ -15,7 +15,7 @@ ghost use Rattle.merge_log.specs.Places.{FirstPlace, is_child};
 ghost use Rattle.merge_log.specs.Runs.{without_run, RunIn, StandsBefore, OnceIf, Leads};
 ghost use Rattle.table_test.specs.Fits.{KeepsModel, KeepsState};
 
-use crate::refusals::{Outcome, Refusal};
+use crate::refusals::{Halt, Refusal};
 use schema_calls::calls::Found;
 use tables::file_set::FileSet;
 use tables::limits::LOG_LIMIT;
@@ -24,7 +24,7 @@ use tables::model::{Item, item_at, list_length, remove_items, set_of, set_parent
 use tables::numbers::{Element, FileNumber};
 
 // The set becomes `files`, and the log keeps the old one.
-pub fn restrict(model: &mut [u64], log: &mut [u64], e: Element, files: FileSet) -> Outcome
+pub fn restrict(model: &mut [u64], log: &mut [u64], e: Element, files: FileSet) -> Result<(), Halt>
     requires good_model { GoodModel model.old }
     requires good_log { GoodLog log.old }
     requires e_bound { e.0 < count_of (model_of model.old) }
@@ -32,16 +32,16 @@ pub fn restrict(model: &mut [u64], log: &mut [u64], e: Element, files: FileSet) 
     ensures keeps_state { KeepsState model.old log.old model.new log.new }
 {
     if LOG_LIMIT <= log_length(log) {
-        return Outcome::Refused(Refusal::LogFull);
+        return Err(Halt::Refused(Refusal::LogFull));
     }
     let old = set_of(model, e);
     push_entry(log, Entry::Restriction(e, old));
     set_set(model, e, files);
-    Outcome::Done
+    Ok(())
 }
 
 // The set gains the file where it lacks it, and the log an entry.
-pub fn extend(model: &mut [u64], log: &mut [u64], e: Element, f: FileNumber) -> Outcome
+pub fn extend(model: &mut [u64], log: &mut [u64], e: Element, f: FileNumber) -> Result<(), Halt>
     requires good_model { GoodModel model.old }
     requires good_log { GoodLog log.old }
     requires e_bound { e.0 < count_of (model_of model.old) }
@@ -51,23 +51,20 @@ pub fn extend(model: &mut [u64], log: &mut [u64], e: Element, f: FileNumber) -> 
 {
     let old = set_of(model, e);
     if old.holds(f) {
-        return Outcome::Done;
+        return Ok(());
     }
     if LOG_LIMIT <= log_length(log) {
-        return Outcome::Refused(Refusal::LogFull);
+        return Err(Halt::Refused(Refusal::LogFull));
     }
     push_entry(log, Entry::Extension(e, f));
     set_set(model, e, old.with(f));
-    Outcome::Done
+    Ok(())
 }
 
 fn is_child(a: Item, e: Element) -> bool
     ensures { result ≡ is_child e.0 (item_is a) }
 {
-    match a {
-        Item::Child(c) => c.0 == e.0,
-        Item::Text(_) => false,
-    }
+    matches!(a, Item::Child(c) if c == e)
 }
 
 // The first place of e in the list of p.
@@ -77,13 +74,11 @@ pub fn place_of(model: &[u64], p: Element, e: Element) -> Found
     ensures { FirstPlace e.0 (list_of (model_of model.now) p.0) result }
 {
     let n = list_length(model, p);
-    let mut i: usize = 0;
-    while i < n {
+    for i in 0..n {
         let a = item_at(model, p, i);
         if is_child(a, e) {
             return Found::At(i);
         }
-        i += 1;
     }
     Found::Missing
 }
@@ -95,9 +90,8 @@ fn last_place_of(model: &[u64], p: Element, e: Element) -> Found
     requires p_value { once_in (list_of (model_of model.now) p.0) ≡ true }
     ensures { FirstPlace e.0 (list_of (model_of model.now) p.0) result }
 {
-    let mut last = list_length(model, p);
-    while 0 < last {
-        last -= 1;
+    let n = list_length(model, p);
+    for last in (0..n).rev() {
         let a = item_at(model, p, last);
         if is_child(a, e) {
             return Found::At(last);
@@ -133,7 +127,7 @@ fn stands_before(model: &[u64], r: Run, p: Element, e: Element) -> bool
     requires run_in { RunIn (model_of model.now) r }
     ensures { result ≡ true → StandsBefore (model_of model.now) r p.0 e.0 }
 {
-    if r.p.0 != p.0 {
+    if r.p != p {
         return false;
     }
     if r.i == 0 {
@@ -214,14 +208,12 @@ pub fn rollback_merge(model: &mut [u64], log: &mut [u64], mark: usize, once: boo
     ensures log_after { state_in model.new log.new ≡ rollback_merge mark (state_in model.old log.old) }
     ensures keeps_state { KeepsState model.old log.old model.new log.new }
 {
-    let mut n = log_length(log);
     let mut r = Run {
         p: Element(0),
         i: 0,
         k: 0,
     };
-    while mark < n {
-        n -= 1;
+    for n in (mark..log_length(log)).rev() {
         let a = entry_at(log, n);
         pop_entry(log);
         r = undo_entry(model, r, a, once);
@@ -229,14 +221,11 @@ pub fn rollback_merge(model: &mut [u64], log: &mut [u64], mark: usize, once: boo
     remove_run(model, r);
 }
 
+#[tactic(auto, unfolding(merge_rules::specs::Log::is_root_extension))]
 fn is_root_extension(a: Entry) -> bool
     ensures { result ≡ is_root_extension (entry_is a) }
 {
-    match a {
-        Entry::Import(_, _, _, _) => false,
-        Entry::Restriction(_, _) => false,
-        Entry::Extension(e, _) => e.0 == 0,
-    }
+    matches!(a, Entry::Extension(e, _) if e.0 == 0)
 }
 
 // 0, or the entry below it ends a merge.

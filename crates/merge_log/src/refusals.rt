@@ -7,7 +7,7 @@ ghost use Rattle.merge_rules.specs.Refusals.{refusal_fields};
 
 use tables::numbers::{Element, Name};
 
-#[derive(Clone, Copy)]
+#[derive(Clone, Copy, PartialEq, Eq)]
 pub enum Refusal {
     NotWaiting,
     Unmergeable(Element),
@@ -21,25 +21,18 @@ pub enum Refusal {
     NoMark,
 }
 
-// A conflict has the element whose list it arose in.
-#[derive(Clone, Copy)]
-pub enum Outcome {
-    Done,
+// Why a step is not done; a conflict has the element whose list it arose in.
+#[derive(Clone, Copy, PartialEq, Eq)]
+pub enum Halt {
     Conflict(Element),
     Refused(Refusal),
 }
 
 #[derive(Clone, Copy)]
-pub enum Optional {
-    Missing,
-    Given(u64),
-}
-
-#[derive(Clone, Copy)]
 pub struct RefusalFields {
     pub number: u64,
-    pub element: Optional,
-    pub name: Optional,
+    pub element: Option<u64>,
+    pub name: Option<u64>,
 }
 
 fn alone(number: u64) -> RefusalFields
@@ -47,8 +40,8 @@ fn alone(number: u64) -> RefusalFields
 {
     RefusalFields {
         number,
-        element: Optional::Missing,
-        name: Optional::Missing,
+        element: None,
+        name: None,
     }
 }
 
@@ -57,11 +50,12 @@ fn with_element(number: u64, e: Element) -> RefusalFields
 {
     RefusalFields {
         number,
-        element: Optional::Given(e.0 as u64),
-        name: Optional::Missing,
+        element: Some(e.0 as u64),
+        name: None,
     }
 }
 
+#[tactic(auto, unfolding(merge_rules::specs::Refusals::refusal_fields))]
 pub fn refusal_fields(x: Refusal) -> RefusalFields
     ensures { refusal_fields_is result ≡ refusal_fields (refusal_is x) }
 {
@@ -70,8 +64,8 @@ pub fn refusal_fields(x: Refusal) -> RefusalFields
         Refusal::Unmergeable(e) => with_element(6, e),
         Refusal::NotInVersion(e, n) => RefusalFields {
             number: 7,
-            element: Optional::Given(e.0 as u64),
-            name: Optional::Given(n.0),
+            element: Some(e.0 as u64),
+            name: Some(n.0),
         },
         Refusal::UsedTwice(e) => with_element(8, e),
         Refusal::LogFull => alone(9),

@@ -13,9 +13,9 @@ ghost use Rattle.merge_rules.specs.Level.{files_of_pair, extend_pair, keyed, pla
 ghost use Rattle.merge_log.specs.Answers.{outcome_is};
 
 use imports::import::{clamp, import_at};
-use insert_range::range::{Range, calc_element_insert_range};
+use insert_range::range::calc_element_insert_range;
 use merge_log::log::{extend, place_of, restrict, rollback_merge};
-use merge_log::refusals::{Outcome, Refusal};
+use merge_log::refusals::{Halt, Refusal};
 use pairing::keys::{Child, definition_child, is_identifiable};
 use schema_calls::calls::{Found, splittable_in};
 use tables::elements::{element_name, element_type};
@@ -37,7 +37,7 @@ pub fn files_of_pair(model: &[u64], files: FileSet, a: Element) -> FileSet
 }
 
 // An A with a set gains the new file.
-pub fn extend_pair(model: &mut [u64], log: &mut [u64], f: FileNumber, a: Element) -> Outcome
+pub fn extend_pair(model: &mut [u64], log: &mut [u64], f: FileNumber, a: Element) -> Result<(), Halt>
     requires good_model { GoodModel model.old }
     requires good_log { GoodLog log.old }
     requires a_bound { a.0 < count_of (model_of model.old) }
@@ -47,7 +47,7 @@ pub fn extend_pair(model: &mut [u64], log: &mut [u64], f: FileNumber, a: Element
 {
     let set = set_of(model, a);
     if set.is_empty() {
-        return Outcome::Done;
+        return Ok(());
     }
     extend(model, log, a, f)
 }
@@ -94,7 +94,7 @@ fn import_instead(
     a: Element,
     b: Element,
     e: Element,
-) -> Outcome
+) -> Result<(), Halt>
     requires good_schema { GoodSchema schema.now }
     requires good_elements { GoodElements elements.now }
     requires each { Each (λ (t : ℕ). t < length (schema_of schema.now).types) (elements_of elements.now).types }
@@ -107,12 +107,11 @@ fn import_instead(
     ensures keeps_state { KeepsState model.old log.old model.new log.new }
 {
     let n = element_name(elements, b);
-    let r = calc_element_insert_range(schema, elements, model, p, n, v);
-    let Range::Places(first, last) = r else {
-        return Outcome::Conflict(e);
+    let Ok(places) = calc_element_insert_range(schema, elements, model, p, n, v) else {
+        return Err(Halt::Conflict(e));
     };
     let wanted = place_behind(model, p, a);
-    let at = clamp(wanted, first, last);
+    let at = clamp(wanted, places.first, places.last);
     import_at(model, log, f, p, b, at)
 }
 
@@ -130,7 +129,7 @@ fn fall_back(
     files: FileSet,
     mark: usize,
     e: Element,
-) -> Outcome
+) -> Result<(), Halt>
     requires good_schema { GoodSchema schema.now }
     requires good_elements { GoodElements elements.now }
     requires each { Each (λ (t : ℕ). t < length (schema_of schema.now).types) (elements_of elements.now).types }
@@ -144,11 +143,8 @@ fn fall_back(
     ensures keeps_state { KeepsState model.old log.old model.new log.new }
 {
     rollback_merge(model, log, mark, false);
-    let r = restrict(model, log, a, files);
-    if let Outcome::Done = r {
-        return import_instead(schema, elements, model, log, f, v, p, a, b, e);
-    }
-    r
+    restrict(model, log, a, files)?;
+    import_instead(schema, elements, model, log, f, v, p, a, b, e)
 }
 
 // A conflict from below: refusal 6 where A has a key, else the fallback where p is splittable, else the conflict.
@@ -166,7 +162,7 @@ fn settle_conflict(
     files: FileSet,
     mark: usize,
     e: Element,
-) -> Outcome
+) -> Result<(), Halt>
     requires good_fixed { GoodFixed deck.now schema.now elements.now }
     requires state_over { StateOver elements.now model.old log.old }
     requires f_lt_file_limit { f.0 < file_limit }
@@ -178,11 +174,11 @@ fn settle_conflict(
     ensures keeps_state { KeepsState model.old log.old model.new log.new }
 {
     if is_keyed(deck, schema, elements, model, a) {
-        return Outcome::Refused(Refusal::Unmergeable(e));
+        return Err(Halt::Refused(Refusal::Unmergeable(e)));
     }
     let t = element_type(elements, p);
     if !splittable_in(schema, t, v) {
-        return Outcome::Conflict(e);
+        return Err(Halt::Conflict(e));
     }
     fall_back(schema, elements, model, log, f, v, p, a, b, files, mark, e)
 }
@@ -201,8 +197,8 @@ pub fn settle(
     b: Element,
     files: FileSet,
     mark: usize,
-    below: Outcome,
-) -> Outcome
+    below: Result<(), Halt>,
+) -> Result<(), Halt>
     requires good_fixed { GoodFixed deck.now schema.now elements.now }
     requires state_over { StateOver elements.now model.old log.old }
     requires f_lt_file_limit { f.0 < file_limit }
@@ -214,10 +210,10 @@ pub fn settle(
     ensures keeps_state { KeepsState model.old log.old model.new log.new }
 {
     match below {
-        Outcome::Done => extend_pair(model, log, f, a),
-        Outcome::Conflict(e) => settle_conflict(
+        Ok(()) => extend_pair(model, log, f, a),
+        Err(Halt::Conflict(e)) => settle_conflict(
             deck, schema, elements, model, log, f, v, p, a, b, files, mark, e,
         ),
-        Outcome::Refused(_) => below,
+        Err(Halt::Refused(_)) => below,
     }
 }

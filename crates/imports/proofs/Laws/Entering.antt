@@ -28,9 +28,10 @@ use Rattle.imports.specs.Imports.{Enters, state_without, ImportsInto}
 use Rattle.insert_range.specs.Range.{AnyPlace}
 use Rattle.merge_log.specs.Runs.{RunIn}
 use Rattle.merge_log.specs.declared.log.Run.{Run}
-use Rattle.insert_range.specs.declared.range.Range.TheVariants.{Places, NoRow}
+use Rattle.std.specs.Prelude.{Ok, Err}
+use Rattle.insert_range.specs.declared.range.Unplaced.TheVariants.{NoRow}
 use Rattle.merge_log.specs.declared.refusals.Refusal.TheVariants.{NotInVersion, LogFull}
-use Rattle.merge_log.specs.declared.refusals.Outcome.TheVariants.{Done, Refused}
+use Rattle.merge_log.specs.declared.refusals.Halt.TheVariants.{Refused}
 use Rattle.deck.specs.Schema.{find_sub_element}
 use Rattle.imports.proofs.Laws.Imports.{single-places, single-no-row}
 use Rattle.insert_range.proofs.Laws.Range.{calc-none, calc-any}
@@ -128,14 +129,14 @@ module _ (f : FileNumber) (p e : Element) (at : ℕ) (m l m₁ : List ℕ) (h₁
 module _ (schema elements : List ℕ) (f : FileNumber) (v : Version) (r : Run) (e t : ℕ) (n : Name) (m l : List ℕ) (low : v < version_limit)
     (hn : n.0 ≡ get_or (elements_of elements).names e 0) (ht : t ≡ get_or (elements_of elements).types r.p.0 0) where
   -- 7
-  pub into-no-row : find_sub_element (schema_of schema) t n.0 (1 * 2 ^ v % 2 ^ 64) ≡ none → ImportsInto schema elements f v r e (Refused (NotInVersion r.p n)) m l m l
+  pub into-no-row : find_sub_element (schema_of schema) t n.0 (1 * 2 ^ v % 2 ^ 64) ≡ none → ImportsInto schema elements f v r e (Err (Refused (NotInVersion r.p n))) m l m l
   into-no-row h =
       record {
         is =
             λ deck wanted c.
             let s = state_without r.p.0 r.i r.k m l in
             rw hn
-            (single-no-row (fixed_in deck schema elements) s f v r.p.0 e wanted NoRow
+            (single-no-row (fixed_in deck schema elements) s f v r.p.0 e wanted (Err NoRow)
             (calc-none (fixed_in deck schema elements) s.model r.p.0 (get_or (elements_of elements).names e 0) v low ht (rw hn at h)) refl);
         stateless = λ s t d. refl;
         long = refl;
@@ -156,12 +157,12 @@ module _ (schema elements : List ℕ) (f : FileNumber) (v : Version) (r : Run) (
         let z : length (list_of s.model r.p.0) ≡ length o - r.k =
         ap length (list-put_list (model_of m) r.p.0 (remove_run o r.i r.k) listed) ∙ omega (arith, length-remove_run o r.i r.k w)
         in
-        single-places (fixed_in deck schema elements) s f v r.p.0 e wanted (Places 0 (length (list_of s.model r.p.0)))
+        single-places (fixed_in deck schema elements) s f v r.p.0 e wanted (Ok (record { first = 0; last = length (list_of s.model r.p.0) }))
         (calc-any (fixed_in deck schema elements) s.model r.p.0 (get_or (elements_of elements).names e 0) v low ht (rw hn at found) (rw ht any))
-        0 (length (list_of s.model r.p.0)) r.i refl (sym (rw z c))
+        _ r.i refl (sym (rw z c))
 
     -- 9
-    pub into-log-full : log_limit ≤ length (log_of l) → ImportsInto schema elements f v r e (Refused LogFull) m l m l
+    pub into-log-full : log_limit ≤ length (log_of l) → ImportsInto schema elements f v r e (Err (Refused LogFull)) m l m l
     into-log-full h =
         record {
           is = λ deck wanted c. import-log-full f r.p.0 e r.i (state_without r.p.0 r.i r.k m l) h ∙ here deck wanted c;
@@ -170,7 +171,7 @@ module _ (schema elements : List ℕ) (f : FileNumber) (v : Version) (r : Run) (
           keeps = λ k texts q. q;
         }
 
-    pub into-done : (m' l' : List ℕ) → 0 < r.k → length (log_of l) < log_limit → Enters f r.p.0 e r.i m l m' l' → ImportsInto schema elements f v r e Done m l m' l'
+    pub into-done : (m' l' : List ℕ) → 0 < r.k → length (log_of l) < log_limit → Enters f r.p.0 e r.i m l m' l' → ImportsInto schema elements f v r e (Ok tt) m l m' l'
     into-done m' l' left room h =
         let listed : r.p.0 < length (model_of m).lists = omega (arith, good.sized.lists) in
         let z : suc (r.k - 1) ≡ r.k = omega arith in

@@ -16,35 +16,37 @@ use Rattle.pairing.specs.Plans.{spread, import_in, row_element, row_value}
 use Rattle.pairing.proofs.Laws.Spreads.{spread-done, spread-split, length-singles}
 use Rattle.merge_log.specs.Answers.{outcome_is}
 use Rattle.insert_range.specs.Range.{range_is, PlacesIn}
-use Rattle.insert_range.specs.declared.range.Range as range
-use Rattle.insert_range.specs.declared.range.Range.TheVariants.{Places, NoRow, Conflicting}
-use Rattle.merge_log.specs.declared.refusals.Outcome as step
-use Rattle.merge_log.specs.declared.refusals.Outcome.TheVariants.{Done, Conflict, Refused}
+use Rattle.std.specs.Prelude.{Result, Ok, Err}
+use Rattle.insert_range.specs.declared.range.Bounds.{Bounds}
+use Rattle.insert_range.specs.declared.range.Unplaced.{Unplaced}
+use Rattle.insert_range.specs.declared.range.Unplaced.TheVariants.{NoRow, Conflicting}
+use Rattle.merge_log.specs.declared.refusals.Halt.{Halt}
+use Rattle.merge_log.specs.declared.refusals.Halt.TheVariants.{Conflict, Refused}
 
 -- ---- the range decides
 
 -- the place is one of the list
-pub clamp-within : (wanted i j n : ℕ) (r : range.Range) → PlacesIn n r → r ≡ Places i j → (at : ℕ) → at ≡ clamp wanted i j → at ≤ n
+pub clamp-within : (wanted n : ℕ) (b : Bounds) (r : Result Bounds Unplaced) → PlacesIn n r → r ≡ Ok b → (at : ℕ) → at ≡ clamp wanted b.first b.last → at ≤ n
 unfolding clamp
-clamp-within wanted i j n r h k at e =
+clamp-within wanted n b r h k at e =
     let g = rw k at h in
     rw e (omega (arith, g.0, g.1))
 
-module _ (x : Fixed) (s : State) (f : FileNumber) (v : Version) (p e wanted : ℕ) (r : range.Range)
+module _ (x : Fixed) (s : State) (f : FileNumber) (v : Version) (p e wanted : ℕ) (r : Result Bounds Unplaced)
     (is : range_is r ≡ calc_element_insert_range x s.model p (name_of x e) v) where
-  pub single-places : (i j at : ℕ) → r ≡ Places i j → at ≡ clamp wanted i j → import_at f p e at s ≡ import_single_item x f v p e wanted s
+  pub single-places : (b : Bounds) (at : ℕ) → r ≡ Ok b → at ≡ clamp wanted b.first b.last → import_at f p e at s ≡ import_single_item x f v p e wanted s
   unfolding import_single_item
-  single-places i j at k a =
-      let c : calc_element_insert_range x s.model p (name_of x e) v ≡ places i j = sym is ∙ ap range_is k in
+  single-places b at k a =
+      let c : calc_element_insert_range x s.model p (name_of x e) v ≡ places b.first b.last = sym is ∙ ap range_is k in
       rw a (sym (rw (import_single_item, c)))
 
-  pub single-no-row : r ≡ NoRow → refused (not_in_version p (name_of x e)) ≡ import_single_item x f v p e wanted s
+  pub single-no-row : r ≡ Err NoRow → refused (not_in_version p (name_of x e)) ≡ import_single_item x f v p e wanted s
   unfolding import_single_item
   single-no-row k =
       let c : calc_element_insert_range x s.model p (name_of x e) v ≡ no_row = sym is ∙ ap range_is k in
       sym (rw (import_single_item, c))
 
-  pub single-conflict : r ≡ Conflicting → conflict p s ≡ import_single_item x f v p e wanted s
+  pub single-conflict : r ≡ Err Conflicting → conflict p s ≡ import_single_item x f v p e wanted s
   unfolding import_single_item
   single-conflict k =
       let c : calc_element_insert_range x s.model p (name_of x e) v ≡ conflicting = sym is ∙ ap range_is k in
@@ -53,16 +55,16 @@ module _ (x : Fixed) (s : State) (f : FileNumber) (v : Version) (p e wanted : �
 -- ---- the B-only list
 
 -- a step that is done goes on, another ends
-pub then-done : (s : State) (k : State → Outcome) (o : step.Outcome) {q : Outcome} → outcome_is o s ≡ q → o ≡ Done → (q >>= k) ≡ k s
+pub then-done : (s : State) (k : State → Outcome) (o : Result (Unit {0}) Halt) {q : Outcome} → outcome_is o s ≡ q → o ≡ Ok tt → (q >>= k) ≡ k s
 unfolding ◌>>=◌
 then-done s k o e d = rw (← e, d)
 
-pub then-stop : (s : State) (k : State → Outcome) (o : step.Outcome) {q : Outcome} → outcome_is o s ≡ q → (o ≡ Done → ⊥)
+pub then-stop : (s : State) (k : State → Outcome) (o : Result (Unit {0}) Halt) {q : Outcome} → outcome_is o s ≡ q → (o ≡ Ok tt → ⊥)
     → outcome_is o s ≡ (q >>= k)
 unfolding ◌>>=◌
-then-stop s k Done e n = absurd (n refl)
-then-stop s k (Conflict c) e n = rw (← e)
-then-stop s k (Refused r) e n = rw (← e)
+then-stop s k (Ok d) e n = absurd (n refl)
+then-stop s k (Err (Conflict c)) e n = rw (← e)
+then-stop s k (Err (Refused r)) e n = rw (← e)
 
 -- ---- one list behind another
 
@@ -127,7 +129,7 @@ module _ (schema elements w : List ℕ) (na ni f v p : ℕ) (m₀ l₀ : List �
     imports-end h deck = sym (rw (spread-done (import_in w) (na + i) (na + ni) (omega arith))) ∙ k.left deck
 
     -- n rows from i on, with the answer of their imports and the tables that they left
-    module _ (n : ℕ) (h : i + n ≤ ni) (m' l' : List ℕ) (o : step.Outcome)
+    module _ (n : ℕ) (h : i + n ≤ ni) (m' l' : List ℕ) (o : Result (Unit {0}) Halt)
         (is : (deck : List ℕ) → outcome_is o (state_in m' l') ≡ import_new_items (fixed_in deck schema elements) f v p i (spread (import_in w) (na + i) n) (state_in m l)) where
       here : (deck : List ℕ)
           → import_new_items (fixed_in deck schema elements) f v p i (spread (import_in w) (na + i) (na + ni - (na + i))) (state_in m l)
@@ -137,11 +139,11 @@ module _ (schema elements w : List ℕ) (na ni f v p : ℕ) (m₀ l₀ : List �
           let z : na + ni - (na + i) ≡ n + (na + ni - (na + i + n)) = omega arith in
           rw z (imports-rows (fixed_in deck schema elements) f v p w (na + i) i n (na + ni - (na + i + n)) (state_in m l))
 
-      pub imports-stop : (o ≡ Done → ⊥) → (deck : List ℕ)
+      pub imports-stop : (o ≡ Ok tt → ⊥) → (deck : List ℕ)
           → outcome_is o (state_in m' l') ≡ import_new_items (fixed_in deck schema elements) f v p 0 (spread (import_in w) na ni) (state_in m₀ l₀)
       imports-stop t deck = then-stop (state_in m' l') _ o (is deck) t ∙ sym (here deck) ∙ k.left deck
 
-      pub imports-more : o ≡ Done → KeepsState m l m' l' → ImportsLeft m' l' (i + n)
+      pub imports-more : o ≡ Ok tt → KeepsState m l m' l' → ImportsLeft m' l' (i + n)
       imports-more d kept =
           let s = kept _ _ (record { model_fits = k.model_fits; log_fits = k.log_fits }) in
           let a : na + (i + n) ≡ na + i + n = omega arith in

@@ -23,8 +23,8 @@ use Rattle.merge_log.specs.Answers.{outcome_is}
 use Rattle.imports.specs.Imports.{state_without, ImportsInto, row_place, FollowOn, RunOf, RowsTogether}
 use Rattle.merge_log.specs.Runs.{RunIn}
 use Rattle.merge_log.specs.declared.log.Run.{Run}
-use Rattle.merge_log.specs.declared.refusals.Outcome as step
-use Rattle.merge_log.specs.declared.refusals.Outcome.TheVariants.{Done}
+use Rattle.std.specs.Prelude.{Result, Ok}
+use Rattle.merge_log.specs.declared.refusals.Halt.{Halt}
 use Rattle.imports.proofs.Laws.Imports.{then-done, then-stop}
 use Rattle.merge_log.proofs.Laws.Runs.{remove-none}
 
@@ -70,7 +70,7 @@ module _ (schema elements w : List ℕ) (na i f v : ℕ) (r : Run) (m₁ l₁ : 
     run_in b q p at n = rw (p, at, n) (omega (arith, k.long, k.within))
 
     module _ (h : j < r.k) (b : RunIn (model_of m₁) r) (follow : FollowOn w na i r.k (length (list_of (model_of m₁) r.p.0) - r.k) r.i) (q : Run) (p : q.p ≡ r.p) (at : q.i ≡ r.i + j)
-        (n : q.k ≡ r.k - j) (e : Element) (row : e ≡ row_element w (na + i + j)) (o : step.Outcome) (m' l' : List ℕ)
+        (n : q.k ≡ r.k - j) (e : Element) (row : e ≡ row_element w (na + i + j)) (o : Result (Unit {0}) Halt) (m' l' : List ℕ)
         (is : ImportsInto schema elements f v q e o m l m' l') where
       here : (deck : List ℕ)
           → (outcome_is o (state_without r.p.0 (r.i + (j + 1)) (r.k - (j + 1)) m' l')
@@ -94,10 +94,10 @@ module _ (schema elements w : List ℕ) (na i f v : ℕ) (r : Run) (m₁ l₁ : 
           (ap (λ (t : Outcome). t >>= import_new_items (fixed_in deck schema elements) f v r.p.0 (suc (i + j)) (spread (import_in w) (suc (na + i + j)) rest)) single)
           ∙ (rw z at (k.left deck))
 
-      pub run-stop : (o ≡ Done → ⊥) → (deck : List ℕ) → outcome_is o (state_in m' l') ≡ whole_run deck
+      pub run-stop : (o ≡ Ok tt → ⊥) → (deck : List ℕ) → outcome_is o (state_in m' l') ≡ whole_run deck
       run-stop t deck = is.stateless (state_in m' l') _ t ∙ then-stop (state_without r.p.0 (r.i + (j + 1)) (r.k - (j + 1)) m' l') _ o refl t ∙ here deck
 
-      pub run_more : o ≡ Done → RunLeft m' l' (j + 1)
+      pub run_more : o ≡ Ok tt → RunLeft m' l' (j + 1)
       run_more d =
           let s = is.keeps _ _ (record { model_fits = k.model_fits; log_fits = k.log_fits }) in
           record {

@@ -7,6 +7,7 @@ use Prim.Native.Nat.{ℕ, zero, suc, ◌+◌, ◌*◌, ◌%◌, ◌^◌, ◌≤�
 use native.Mathlib.Numerals.{add-one}
 use native.Mathlib.Omega.{arith}
 use lib.ListN.{length, get_or, drop, drop_of_length-le}
+use Rattle.std.specs.Prelude.{Option, Some, None, Result, Ok, Err}
 use Rattle.tables.specs.Limits.{item_limit, version_limit}
 use Rattle.tables.specs.Paths.{path_order, order_of}
 use Rattle.tables.specs.Records.{SchemaPath, Mode, sequence, choice, bag, mixed, characters, Mult, Item, child, text, Fixed, SubElement, Model, type_row, name_of, type_of, list_of}
@@ -25,10 +26,9 @@ use Rattle.merge_rules.specs.Range.{Range, places, no_row, conflicting, stop, mo
 use Rattle.merge_rules.proofs.Laws.Range.{RangeFits, range-fits}
 use Rattle.insert_range.specs.declared.range.Move as step
 use Rattle.insert_range.specs.declared.range.Move.TheVariants.{Stop, To, Clash}
-use Rattle.insert_range.specs.declared.range.Range as program
-use Rattle.insert_range.specs.declared.range.Range.TheVariants.{Places, NoRow, Conflicting}
+use Rattle.insert_range.specs.declared.range.Unplaced.{Unplaced}
+use Rattle.insert_range.specs.declared.range.Unplaced.TheVariants.{NoRow, Conflicting}
 use Rattle.insert_range.specs.declared.range.Against.{Against}
-use Rattle.insert_range.specs.declared.range.Against.TheVariants.{NoRow as NoRowOf, Row}
 use Rattle.insert_range.specs.declared.range.Bounds.{Bounds}
 use Rattle.insert_range.specs.Range.{ordering_is, move_is, move_of, bounds_after, Compares, name_or, Moves, range_is, PlacesIn, Ranges, AnyPlaceIn}
 use Rattle.table_test.specs.Fits.{ModelOver}
@@ -102,19 +102,19 @@ move-back m o k first index hm ho hk = rw (hm, ho, hk, mode-back m, order-back o
 
 -- ---- one item, by how the elements of its name stand to the new one
 
-module _ (mult index : ℕ) (b : Bounds) (x : Against) {a : Item} where
-  pub child-missing : {e : ℕ} → a ≡ child e → x ≡ NoRowOf → move b.first b.last ≡ move_of a x mult index b
+module _ (mult index : ℕ) (b : Bounds) (x : Option Against) {a : Item} where
+  pub child-missing : {e : ℕ} → a ≡ child e → x ≡ None → move b.first b.last ≡ move_of a x mult index b
   child-missing h k = rw (h, k)
 
-  pub child-row : {e mode : ℕ} {order : Order} → a ≡ child e → x ≡ Row mode order → (r : step.Move)
-      → move_is r ≡ move_by (mode_from mode) (ordering_is order) (mult_from mult) b.first index → move_is r ≡ move_of a x mult index b
+  pub child-row : {e : ℕ} {y : Against} → a ≡ child e → x ≡ Some y → (r : step.Move)
+      → move_is r ≡ move_by (mode_from y.mode) (ordering_is y.order) (mult_from mult) b.first index → move_is r ≡ move_of a x mult index b
   child-row h k r g = rw (h, k) g
 
   pub text-last : {t : ℕ} → a ≡ text t → move b.first (index + 1) ≡ move_of a x mult index b
   text-last h = rw h
 
 module _ (schema : List ℕ) (t new n : ℕ) where
-  pub compares-none : row_of_name (schema_of schema) t n ≡ none → Compares schema t new n NoRowOf
+  pub compares-none : row_of_name (schema_of schema) t n ≡ none → Compares schema t new n None
   unfolding move_at
   compares-none h =
       record {
@@ -126,7 +126,7 @@ module _ (schema : List ℕ) (t new n : ℕ) where
   pub compares-row : {old : SubElement} → row_of_name (schema_of schema) t n ≡ some old
       → {path other : SchemaPath} → path ≡ (get_or (schema_of schema).sub_elements new no_sub_element).path → other ≡ old.path
       → {mode : ℕ} {order : Order} → mode ≡ mode_number (find_common_group (schema_of schema) t path other) → order ≡ order_of (path_order path other)
-      → Compares schema t new n (Row mode order)
+      → Compares schema t new n (Some (record { mode = mode; order = order }))
   unfolding move_at
   compares-row {old} h hp ho hm hr =
       record {
@@ -144,7 +144,7 @@ pub record ItemRead (x : Fixed) (p : ℕ) (new : SubElement) (l : List Item) (i 
   pub moved : b' ≡ bounds_after m b
 
 module _ (deck schema elements : List ℕ) (p : ℕ) {t : ℕ} (ht : t ≡ type_of (fixed_in deck schema elements) p) (new : ℕ) {mult : ℕ}
-    (hm : mult ≡ mult_number (get_or (schema_of schema).sub_elements new no_sub_element).mult) {n : ℕ} {s : Against} (compares : Compares schema t new n s) (last : ℕ) where
+    (hm : mult ≡ mult_number (get_or (schema_of schema).sub_elements new no_sub_element).mult) {n : ℕ} {s : Option Against} (compares : Compares schema t new n s) (last : ℕ) where
   item-moves : (a : Item) → n ≡ name_or elements last a → (index : ℕ) (b : Bounds)
       → move_of a s mult index b ≡ move_at (fixed_in deck schema elements) p (get_or (schema_of schema).sub_elements new no_sub_element) a index b.first b.last
   unfolding move_at
@@ -224,7 +224,7 @@ module _ (x : Fixed) (m : Model) (p n v : ℕ) (low : v < version_limit) {t : �
         let k : find_sub_element x.schema (type_of x p) n (version_mask v) ≡ some new = rw (← ht, ← one_shifted v (omega arith)) found in
         rw (calc_element_insert_range, k, hm, mode-back (type_row x.schema t).mode, ht)
 
-    pub calc-read : mode < 2 → (r : program.Range) → range_is r ≡ read_content x p new (list_of m p) 0 0 0 → range_is r ≡ calc_element_insert_range x m p n v
+    pub calc-read : mode < 2 → (r : Result Bounds Unplaced) → range_is r ≡ read_content x p new (list_of m p) 0 0 0 → range_is r ≡ calc_element_insert_range x m p n v
     unfolding range_in
     calc-read h r e = e ∙ two mode h ∙ by_mode
       where
@@ -250,12 +250,12 @@ module _ (x : Fixed) (m : Model) (p n v : ℕ) (low : v < version_limit) {t : �
 
 -- ---- the places are places of the list
 
-places-in : (n : ℕ) (r : program.Range) (o : Range) → range_is r ≡ o → RangeFits n o → PlacesIn n r
-places-in n (Places first last) o e h = subst (RangeFits n) (sym e) h
-places-in n NoRow o e h = tt
-places-in n Conflicting o e h = tt
+places-in : (n : ℕ) (r : Result Bounds Unplaced) (o : Range) → range_is r ≡ o → RangeFits n o → PlacesIn n r
+places-in n (Ok b) o e h = subst (RangeFits n) (sym e) h
+places-in n (Err NoRow) o e h = tt
+places-in n (Err Conflicting) o e h = tt
 
-pub ranges : (schema elements model : List ℕ) (p n v : ℕ) (r : program.Range)
+pub ranges : (schema elements model : List ℕ) (p n v : ℕ) (r : Result Bounds Unplaced)
     → ((deck : List ℕ) → range_is r ≡ calc_element_insert_range (fixed_in deck schema elements) (model_of model) p n v)
     → Ranges schema elements model p n v r
 ranges schema elements model p n v r h =

@@ -24,11 +24,13 @@ use Rattle.pairing.proofs.Laws.Keys.{child-at, child-missing}
 use Rattle.merge_log.specs.Answers.{outcome_is}
 use Rattle.merge_log.specs.Places.{FirstPlace, place_is}
 use Rattle.insert_range.specs.Range.{range_is}
-use Rattle.insert_range.specs.declared.range.Range as range
-use Rattle.insert_range.specs.declared.range.Range.TheVariants.{Places, NoRow, Conflicting}
+use Rattle.std.specs.Prelude.{Result, Ok, Err}
+use Rattle.insert_range.specs.declared.range.Bounds.{Bounds}
+use Rattle.insert_range.specs.declared.range.Unplaced.{Unplaced}
+use Rattle.insert_range.specs.declared.range.Unplaced.TheVariants.{NoRow, Conflicting}
 use Rattle.merge_log.specs.declared.refusals.Refusal as program
-use Rattle.merge_log.specs.declared.refusals.Outcome as step
-use Rattle.merge_log.specs.declared.refusals.Outcome.TheVariants.{Done, Conflict, Refused}
+use Rattle.merge_log.specs.declared.refusals.Halt.{Halt}
+use Rattle.merge_log.specs.declared.refusals.Halt.TheVariants.{Conflict, Refused}
 use Rattle.imports.proofs.Laws.Imports.{then-done, then-stop}
 
 -- ---- A's set
@@ -88,28 +90,28 @@ module _ (m : Model) (p a : Element) (r : Found) (f : FirstPlace a (list_of m p)
 -- ---- B instead
 
 module _ (x : Fixed) (f : FileNumber) (v : Version) (p : Element) (q : Pair) (e : Element) (s : State) where
-  pub instead-at : (i j wanted at : ℕ) (r : range.Range) → range_is r ≡ calc_element_insert_range x s.model p (name_of x q.b) v → r ≡ Places i j
-      → wanted ≡ place_behind s.model p q.a → at ≡ clamp wanted i j → import_at f p q.b at s ≡ import_instead x f v p q e s
+  pub instead-at : (b : Bounds) (wanted at : ℕ) (r : Result Bounds Unplaced) → range_is r ≡ calc_element_insert_range x s.model p (name_of x q.b) v → r ≡ Ok b
+      → wanted ≡ place_behind s.model p q.a → at ≡ clamp wanted b.first b.last → import_at f p q.b at s ≡ import_instead x f v p q e s
   unfolding import_instead
-  instead-at i j wanted at r is k w a =
-      let c : calc_element_insert_range x s.model p (name_of x q.b) v ≡ places i j = sym is ∙ ap range_is k in
+  instead-at b wanted at r is k w a =
+      let c : calc_element_insert_range x s.model p (name_of x q.b) v ≡ places b.first b.last = sym is ∙ ap range_is k in
       rw (a, w) (sym (rw (import_instead, c)))
 
-  pub instead-conflict : (r : range.Range) → range_is r ≡ calc_element_insert_range x s.model p (name_of x q.b) v
-      → ((i j : ℕ) → r ≡ Places i j → ⊥) → conflict e s ≡ import_instead x f v p q e s
+  pub instead-conflict : (r : Result Bounds Unplaced) → range_is r ≡ calc_element_insert_range x s.model p (name_of x q.b) v
+      → ((b : Bounds) → r ≡ Ok b → ⊥) → conflict e s ≡ import_instead x f v p q e s
   unfolding import_instead
-  instead-conflict (Places i j) is n = absurd (n i j refl)
-  instead-conflict NoRow is n = sym (rw (import_instead, ← is))
-  instead-conflict Conflicting is n = sym (rw (import_instead, ← is))
+  instead-conflict (Ok b) is n = absurd (n b refl)
+  instead-conflict (Err NoRow) is n = sym (rw (import_instead, ← is))
+  instead-conflict (Err Conflicting) is n = sym (rw (import_instead, ← is))
 
   -- back at the mark, A gets the files, and the answer decides
-  module _ (files : FileSet) (mark : ℕ) (back after : State) (o : step.Outcome) (rolled : back ≡ rollback_merge mark s)
+  module _ (files : FileSet) (mark : ℕ) (back after : State) (o : Result (Unit {0}) Halt) (rolled : back ≡ rollback_merge mark s)
       (is : outcome_is o after ≡ restrict q.a files back) where
-    pub fallen-on : o ≡ Done → import_instead x f v p q e after ≡ fall_back x f v p q files mark e s
+    pub fallen-on : o ≡ Ok tt → import_instead x f v p q e after ≡ fall_back x f v p q files mark e s
     unfolding fall_back
     fallen-on d = sym (then-done after (import_instead x f v p q e) o (rw rolled at is) d)
 
-    pub fallen-stop : (o ≡ Done → ⊥) → outcome_is o after ≡ fall_back x f v p q files mark e s
+    pub fallen-stop : (o ≡ Ok tt → ⊥) → outcome_is o after ≡ fall_back x f v p q files mark e s
     unfolding fall_back
     fallen-stop t = then-stop after (import_instead x f v p q e) o (rw rolled at is) t
 
@@ -135,16 +137,16 @@ module _ (x : Fixed) (f : FileNumber) (v : Version) (p : Element) (q : Pair) (fi
 
 -- ---- the level's answer
 
-module _ (x : Fixed) (f : FileNumber) (v : Version) (p : Element) (q : Pair) (files : FileSet) (mark : ℕ) (s : State) (below : step.Outcome) where
-  pub settle-done : below ≡ Done → extend_pair f q.a s ≡ settle x f v p q files mark (outcome_is below s)
+module _ (x : Fixed) (f : FileNumber) (v : Version) (p : Element) (q : Pair) (files : FileSet) (mark : ℕ) (s : State) (below : Result (Unit {0}) Halt) where
+  pub settle-done : below ≡ Ok tt → extend_pair f q.a s ≡ settle x f v p q files mark (outcome_is below s)
   unfolding settle
   settle-done k = rw k
 
-  pub settle-conflict : (e : numbers.Element) → below ≡ Conflict e
+  pub settle-conflict : (e : numbers.Element) → below ≡ Err (Conflict e)
       → settle_conflict x f v p q files mark e.0 s ≡ settle x f v p q files mark (outcome_is below s)
   unfolding settle
   settle-conflict e k = rw k
 
-  pub settle-refused : (r : program.Refusal) → below ≡ Refused r → outcome_is below s ≡ settle x f v p q files mark (outcome_is below s)
+  pub settle-refused : (r : program.Refusal) → below ≡ Err (Refused r) → outcome_is below s ≡ settle x f v p q files mark (outcome_is below s)
   unfolding settle
   settle-refused r k = rw k

@@ -2,7 +2,8 @@ use Rattle.std.proofs.Common.{arith}
 use Rattle.tables.specs.ModelTable.{model_of}
 use Rattle.schema_calls.proofs.Laws.Scans.{found-at, found_within, found-missing}
 use Rattle.state_test.specs.StateTest.{fixed_in}
-use Rattle.insert_range.specs.declared.range.Range.TheVariants.{Places, NoRow}
+use Rattle.std.specs.Prelude.{Ok, Err}
+use Rattle.insert_range.specs.declared.range.Unplaced.TheVariants.{NoRow}
 use Rattle.insert_range.proofs.Laws.Range.{calc-none, calc-read, calc-all, calc-characters, ranges}
 use Rattle.table_test.proofs.Laws.Tested.{type-in}
 use Rattle.insert_range.proofs.range.calc_element_insert_range.Goals as goal
@@ -10,7 +11,7 @@ use Rattle.insert_range.proofs.range.calc_element_insert_range.Goals as goal
 pub returns-in_default : goal.returns-in_default
 returns-in_default c =
     let a = c.args in
-    ranges a.schema.now a.elements.now a.model.now a.p.0 a.n.0 a.v NoRow
+    ranges a.schema.now a.elements.now a.model.now a.p.0 a.n.0 a.v (Err NoRow)
     (λ deck. calc-none (fixed_in deck a.schema.now a.elements.now) (model_of a.model.now) a.p.0 a.n.0 a.v c.requires.v_lt_version_limit
     c.element_type-t.ensures (found-missing c.find_sub_element.ensures c.in_default.is))
 
@@ -45,13 +46,13 @@ returns-in-0 c =
 pub returns-in-2 : goal.returns-in-2
 returns-in-2 c =
     let a = c.args in
-    ranges a.schema.now a.elements.now a.model.now a.p.0 a.n.0 a.v (Places 0 c.list_length.result)
+    ranges a.schema.now a.elements.now a.model.now a.p.0 a.n.0 a.v (Ok (record { first = 0; last = c.list_length.result }))
     (λ deck. calc-all (fixed_in deck a.schema.now a.elements.now) (model_of a.model.now) a.p.0 a.n.0 a.v c.requires.v_lt_version_limit
     c.element_type-t.ensures (found-at c.find_sub_element.ensures c.in-At.is) c.type_mode-mode.ensures (omega arith) (omega arith) c.list_length.ensures)
 
 pub returns-in_default-mode : goal.returns-in_default-mode
 returns-in_default-mode c =
     let a = c.args in
-    ranges a.schema.now a.elements.now a.model.now a.p.0 a.n.0 a.v NoRow
+    ranges a.schema.now a.elements.now a.model.now a.p.0 a.n.0 a.v (Err NoRow)
     (λ deck. calc-characters (fixed_in deck a.schema.now a.elements.now) (model_of a.model.now) a.p.0 a.n.0 a.v c.requires.v_lt_version_limit
     c.element_type-t.ensures (found-at c.find_sub_element.ensures c.in-At.is) c.type_mode-mode.ensures (omega arith))

@@ -9,6 +9,7 @@ use Rattle.tables.specs.declared.numbers.Name.{Name}
 use Rattle.state_test.specs.StateTest.{fixed_in}
 use borrow.Author.Rules.{rules}
 use Rattle.insert_range.specs.Range.{Compares, name_or}
+use Rattle.std.specs.Prelude.{Option}
 use Rattle.insert_range.specs.declared.range.Against.{Against}
 use Rattle.insert_range.proofs.Laws.Range.{item-read, read-stop, read-clash, read_more, read-end, item-early, item_in}
 use Rattle.table_test.proofs.Laws.Tested.{type-in}
@@ -16,11 +17,11 @@ use Rattle.insert_range.proofs.range.read_content.Goals as goal
 use Rattle.insert_range.proofs.range.read_content.Goals.{then-next-name, else-next-name}
 
 -- n is the name of item a, behind the name last, and x is how its elements stand to row new
-record Named (schema elements : List ℕ) (t new last : ℕ) (a : Item) (n : Name) (x : Against) : Type 0 where
+record Named (schema elements : List ℕ) (t new last : ℕ) (a : Item) (n : Name) (x : Option Against) : Type 0 where
   pub compares : Compares schema t new n.0 x
   pub named : n.0 ≡ name_or elements last a
 
-named : {schema elements : List ℕ} {t new last : ℕ} {a : Item} {m n : Name} {x y : Against}
+named : {schema elements : List ℕ} {t new last : ℕ} {a : Item} {m n : Name} {x y : Option Against}
     → n ≡ m → y ≡ x → Compares schema t new m.0 x → m.0 ≡ name_or elements last a → Named schema elements t new last a n y
 named hn hy h e = rw (hn, hy) (record { compares = h; named = e })
 

@@ -8,15 +8,15 @@ use Rattle.pairs.proofs.settle.fall_back.Goals as goal
 pub rollback_merge-requires : goal.rollback_merge-requires
 rollback_merge-requires c = record { good_model = c.requires.state_over.model_fits.good; good_log = c.requires.state_over.log_fits.good; each = rw c.requires.state_over.model_fits.same c.requires.state_over.log_fits.entries; once_if = λ once. absurd (false≢true once) }
 
-pub restrict-r-requires : goal.restrict-r-requires
-restrict-r-requires c =
+pub restrict-requires : goal.restrict-requires
+restrict-requires c =
     let g = c.rollback_merge.ensures.keeps_state _ _ c.requires.state_over in record { good_model = g.model_fits.good; good_log = g.log_fits.good; e_bound = rw g.model_fits.same c.requires.a_in_bounds }
 
 pub import_instead-requires : goal.import_instead-requires
-import_instead-requires c = record { good_schema = c.requires.good_schema; good_elements = c.requires.good_elements; each = c.requires.each; state_over = c.restrict-r.ensures.keeps_state _ _ (c.rollback_merge.ensures.keeps_state _ _ c.requires.state_over); f_lt_file_limit = c.requires.f_lt_file_limit; v_lt_version_limit = c.requires.v_lt_version_limit; p_in_bounds = c.requires.p_in_bounds; b_in_bounds = c.requires.b_in_bounds }
-
-pub returns-in-Done : goal.returns-in-Done
-returns-in-Done c = record { by_index = λ deck. c.import_instead.ensures.by_index deck ∙ fallen-on (fixed_in deck c.args.schema.now c.args.elements.now) c.args.f.0 c.args.v c.args.p.0 (record { a = c.args.a.0; b = c.args.b.0 }) c.args.e.0 (state_in c.args.model.now c.args.log.now) (set_is c.args.files) c.args.mark (state_in c.rollback_merge.new.model c.rollback_merge.new.log) (state_in c.restrict-r.new.model c.restrict-r.new.log) c.restrict-r.result c.rollback_merge.ensures.log_after c.restrict-r.ensures.log_after c.in-Done.is; keeps_state = λ n texts s. c.import_instead.ensures.keeps_state n texts (c.restrict-r.ensures.keeps_state n texts (c.rollback_merge.ensures.keeps_state n texts s)) }
+import_instead-requires c = record { good_schema = c.requires.good_schema; good_elements = c.requires.good_elements; each = c.requires.each; state_over = c.restrict.ensures.keeps_state _ _ (c.rollback_merge.ensures.keeps_state _ _ c.requires.state_over); f_lt_file_limit = c.requires.f_lt_file_limit; v_lt_version_limit = c.requires.v_lt_version_limit; p_in_bounds = c.requires.p_in_bounds; b_in_bounds = c.requires.b_in_bounds }
 
 pub returns : goal.returns
-returns c = record { by_index = λ deck. fallen-stop (fixed_in deck c.args.schema.now c.args.elements.now) c.args.f.0 c.args.v c.args.p.0 (record { a = c.args.a.0; b = c.args.b.0 }) c.args.e.0 (state_in c.args.model.now c.args.log.now) (set_is c.args.files) c.args.mark (state_in c.rollback_merge.new.model c.rollback_merge.new.log) (state_in c.restrict-r.new.model c.restrict-r.new.log) c.restrict-r.result c.rollback_merge.ensures.log_after c.restrict-r.ensures.log_after c.in_default.not-Done; keeps_state = λ n texts s. c.restrict-r.ensures.keeps_state n texts (c.rollback_merge.ensures.keeps_state n texts s) }
+returns c = record { by_index = λ deck. c.import_instead.ensures.by_index deck ∙ fallen-on (fixed_in deck c.args.schema.now c.args.elements.now) c.args.f.0 c.args.v c.args.p.0 (record { a = c.args.a.0; b = c.args.b.0 }) c.args.e.0 (state_in c.args.model.now c.args.log.now) (set_is c.args.files) c.args.mark (state_in c.rollback_merge.new.model c.rollback_merge.new.log) (state_in c.restrict.new.model c.restrict.new.log) c.restrict.result c.rollback_merge.ensures.log_after c.restrict.ensures.log_after c.in_ok-restrict.was; keeps_state = λ n texts s. c.import_instead.ensures.keeps_state n texts (c.restrict.ensures.keeps_state n texts (c.rollback_merge.ensures.keeps_state n texts s)) }
+
+pub returns-in_err-restrict : goal.returns-in_err-restrict
+returns-in_err-restrict c = record { by_index = λ deck. fallen-stop (fixed_in deck c.args.schema.now c.args.elements.now) c.args.f.0 c.args.v c.args.p.0 (record { a = c.args.a.0; b = c.args.b.0 }) c.args.e.0 (state_in c.args.model.now c.args.log.now) (set_is c.args.files) c.args.mark (state_in c.rollback_merge.new.model c.rollback_merge.new.log) (state_in c.restrict.new.model c.restrict.new.log) c.restrict.result c.rollback_merge.ensures.log_after c.restrict.ensures.log_after c.in_default.not-Done; keeps_state = λ n texts s. c.restrict.ensures.keeps_state n texts (c.rollback_merge.ensures.keeps_state n texts s) }

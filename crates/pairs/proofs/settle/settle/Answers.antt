@@ -7,14 +7,14 @@ use Rattle.pairs.proofs.settle.settle.Goals as goal
 pub extend_pair-requires : goal.extend_pair-requires
 extend_pair-requires c = record { good_model = c.requires.state_over.model_fits.good; good_log = c.requires.state_over.log_fits.good; a_bound = rw c.requires.state_over.model_fits.same c.requires.a_in_bounds; f_lt_file_limit = c.requires.f_lt_file_limit }
 
-pub returns-in-Done : goal.returns-in-Done
-returns-in-Done c =
-    let x = fixed_in c.args.deck.now c.args.schema.now c.args.elements.now in record { log_after = c.extend_pair.ensures.log_after ∙ settle-done x c.args.f.0 c.args.v c.args.p.0 (record { a = c.args.a.0; b = c.args.b.0 }) (set_is c.args.files) c.args.mark (state_in c.args.model.now c.args.log.now) c.args.below c.in-Done.is; keeps_state = c.extend_pair.ensures.keeps_state }
+pub returns-in-Ok : goal.returns-in-Ok
+returns-in-Ok c =
+    let x = fixed_in c.args.deck.now c.args.schema.now c.args.elements.now in record { log_after = c.extend_pair.ensures.log_after ∙ settle-done x c.args.f.0 c.args.v c.args.p.0 (record { a = c.args.a.0; b = c.args.b.0 }) (set_is c.args.files) c.args.mark (state_in c.args.model.now c.args.log.now) c.args.below c.in-Ok.is; keeps_state = c.extend_pair.ensures.keeps_state }
 
-pub returns-in-Conflict : goal.returns-in-Conflict
-returns-in-Conflict c =
-    let x = fixed_in c.args.deck.now c.args.schema.now c.args.elements.now in record { log_after = c.settle_conflict.ensures.log_after ∙ settle-conflict x c.args.f.0 c.args.v c.args.p.0 (record { a = c.args.a.0; b = c.args.b.0 }) (set_is c.args.files) c.args.mark (state_in c.args.model.now c.args.log.now) c.args.below _ c.in-Conflict.is; keeps_state = c.settle_conflict.ensures.keeps_state }
+pub returns-in-Err-Conflict : goal.returns-in-Err-Conflict
+returns-in-Err-Conflict c =
+    let x = fixed_in c.args.deck.now c.args.schema.now c.args.elements.now in record { log_after = c.settle_conflict.ensures.log_after ∙ settle-conflict x c.args.f.0 c.args.v c.args.p.0 (record { a = c.args.a.0; b = c.args.b.0 }) (set_is c.args.files) c.args.mark (state_in c.args.model.now c.args.log.now) c.args.below _ (rw c.in-Err-Conflict.field-0-is at c.in-Err-Conflict.is); keeps_state = c.settle_conflict.ensures.keeps_state }
 
-pub returns-in-Refused : goal.returns-in-Refused
-returns-in-Refused c =
-    let x = fixed_in c.args.deck.now c.args.schema.now c.args.elements.now in record { log_after = settle-refused x c.args.f.0 c.args.v c.args.p.0 (record { a = c.args.a.0; b = c.args.b.0 }) (set_is c.args.files) c.args.mark (state_in c.args.model.now c.args.log.now) c.args.below _ c.in-Refused.is; keeps_state = λ n texts s. s }
+pub returns-in-Err-Refused : goal.returns-in-Err-Refused
+returns-in-Err-Refused c =
+    let x = fixed_in c.args.deck.now c.args.schema.now c.args.elements.now in record { log_after = settle-refused x c.args.f.0 c.args.v c.args.p.0 (record { a = c.args.a.0; b = c.args.b.0 }) (set_is c.args.files) c.args.mark (state_in c.args.model.now c.args.log.now) c.args.below _ (rw c.in-Err-Refused.field-0-is at c.in-Err-Refused.is); keeps_state = λ n texts s. s }
