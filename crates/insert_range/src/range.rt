@@ -143,7 +143,13 @@ fn bounds_after(m: Move, bounds: Bounds) -> Bounds
 }
 
 // One content item moves the bounds that are lent.
-fn read_item(a: Item, against: Option<Against>, mult: u64, index: usize, bounds: &mut Bounds) -> Move
+fn read_item(
+    a: Item,
+    against: Option<Against>,
+    mult: u64,
+    index: usize,
+    bounds: &mut Bounds,
+) -> Move
     requires { index < item_limit }
     ensures { Moves (item_is a) against mult index bounds.old bounds.new result }
 {
@@ -173,7 +179,13 @@ fn lend_bounds(a: Item, against: Option<Against>, mult: u64, index: usize, bound
 }
 
 // The items of p's list in order, against the row of the new name.
-fn read_content(schema: &[u64], elements: &[u64], model: &[u64], p: Element, new: usize) -> Result<Bounds, Unplaced>
+fn read_content(
+    schema: &[u64],
+    elements: &[u64],
+    model: &[u64],
+    p: Element,
+    new: usize,
+) -> Result<Bounds, Unplaced>
     requires good_schema { GoodSchema schema.now }
     requires good_elements { GoodElements elements.now }
     requires each { Each (λ (t : ℕ). t < length (schema_of schema.now).types) (elements_of elements.now).types }

@@ -11,10 +11,10 @@ use borrow.Author.Rules.{rules}
 use Rattle.insert_range.specs.Range.{Compares, name_or}
 use Rattle.std.specs.Prelude.{Option}
 use Rattle.insert_range.specs.declared.range.Against.{Against}
-use Rattle.insert_range.proofs.Laws.Range.{item-read, read-stop, read-clash, read_more, read-end, item-early, item_in}
+use Rattle.insert_range.proofs.Laws.Range.{ItemRead, item-read, read-stop, read-clash, read_more, read-end, item-early, item_in}
 use Rattle.table_test.proofs.Laws.Tested.{type-in}
 use Rattle.insert_range.proofs.range.read_content.Goals as goal
-use Rattle.insert_range.proofs.range.read_content.Goals.{then-next-name, else-next-name}
+use Rattle.insert_range.proofs.range.read_content.Goals.{then-ne, else-ne, After-lend_bounds-s}
 
 -- n is the name of item a, behind the name last, and x is how its elements stand to row new
 record Named (schema elements : List ℕ) (t new last : ℕ) (a : Item) (n : Name) (x : Option Against) : Type 0 where
@@ -46,8 +46,8 @@ pub lend_bounds-s-requires : goal.lend_bounds-s-requires
 lend_bounds-s-requires c =
     item-early c.args.elements.now c.args.model.now c.requires.model_over c.args.p.0 c.loop-i.i (search rules)
 
-pub compare_name-against-requires-then-next-name : goal.compare_name-against-requires-then-next-name
-compare_name-against-requires-then-next-name c =
+pub compare_name-against-requires-then-ne : goal.compare_name-against-requires-then-ne
+compare_name-against-requires-then-ne c =
     let r = c.requires in
     record {
       good_schema = r.good_schema;
@@ -55,56 +55,40 @@ compare_name-against-requires-then-next-name c =
       in_bounds = r.in_bounds;
     }
 
-pub returns-in-Stop : goal.returns-in-Stop
-returns-in-Stop c =
-    let a = c.args in
-    let k : Named a.schema.now a.elements.now c.element_type-t.result.0 a.new c.loop-i.name.0 (item_is c.item_at-a.result)
-    c.if-next-name.name c.if-next-name.against =
-    elim c.if-next-name.branch [
-      | then-next-name w ↦ named w.name-is w.against-is w.compare_name-against-then-next-name.ensures c.name_or-next.ensures
-      | else-next-name w ↦ named w.name-is w.against-is c.loop-i.invariant.0 (sym w.if-next-name.false ∙ c.name_or-next.ensures)
+-- the name of the item, and how its elements stand to the new row
+now-named : (c : After-lend_bounds-s) → Named c.args.schema.now c.args.elements.now c.element_type-t.result.0 c.args.new c.loop-i.name.0
+    (item_is c.item_at-a.result) c.if-ne.name c.if-ne.against
+now-named c =
+    elim c.if-ne.branch [
+      | then-ne w ↦ named w.name-is w.against-is w.compare_name-against-then-ne.ensures c.name_or-next.ensures
+      | else-ne w ↦
+          let same : c.name_or-next.result.0 ≡ c.loop-i.name.0 = search rules in
+          named w.name-is w.against-is c.loop-i.invariant.0 (sym same ∙ c.name_or-next.ensures)
     ]
-    in
-    let read =
-    λ (deck : List ℕ).
+
+read : (c : After-lend_bounds-s) (deck : List ℕ) → ItemRead (fixed_in deck c.args.schema.now c.args.elements.now) c.args.p.0
+    (get_or (schema_of c.args.schema.now).sub_elements c.args.new no_sub_element) (list_of (model_of c.args.model.now) c.args.p.0) c.loop-i.i
+    c.loop-i.bounds c.lend_bounds-s.result.bounds c.lend_bounds-s.result.answer
+read c deck =
+    let a = c.args in
+    let k = now-named c in
     item-read deck a.schema.now a.elements.now a.p.0 c.element_type-t.ensures a.new c.row_mult-mult.ensures k.compares c.loop-i.name.0
     (list_of (model_of a.model.now) a.p.0) c.loop-i.i (search rules) (item_is c.item_at-a.result) c.item_at-a.ensures k.named c.lend_bounds-s.ensures
-    in
-    λ deck. sym (read-stop (read deck) c.in-Stop.is) ∙ c.loop-i.invariant.1 deck
+
+pub returns-in-Stop : goal.returns-in-Stop
+returns-in-Stop c =
+    let s = (goal.at.returns-in-Stop c).After-lend_bounds-s in
+    λ deck. sym (read-stop (read s deck) c.in-Stop.is) ∙ c.loop-i.invariant.1 deck
 
 pub returns-in-Clash : goal.returns-in-Clash
 returns-in-Clash c =
-    let a = c.args in
-    let k : Named a.schema.now a.elements.now c.element_type-t.result.0 a.new c.loop-i.name.0 (item_is c.item_at-a.result)
-    c.if-next-name.name c.if-next-name.against =
-    elim c.if-next-name.branch [
-      | then-next-name w ↦ named w.name-is w.against-is w.compare_name-against-then-next-name.ensures c.name_or-next.ensures
-      | else-next-name w ↦ named w.name-is w.against-is c.loop-i.invariant.0 (sym w.if-next-name.false ∙ c.name_or-next.ensures)
-    ]
-    in
-    let read =
-    λ (deck : List ℕ).
-    item-read deck a.schema.now a.elements.now a.p.0 c.element_type-t.ensures a.new c.row_mult-mult.ensures k.compares c.loop-i.name.0
-    (list_of (model_of a.model.now) a.p.0) c.loop-i.i (search rules) (item_is c.item_at-a.result) c.item_at-a.ensures k.named c.lend_bounds-s.ensures
-    in
-    λ deck. sym (read-clash (read deck) c.in-Clash.is) ∙ c.loop-i.invariant.1 deck
+    let s = (goal.at.returns-in-Clash c).After-lend_bounds-s in
+    λ deck. sym (read-clash (read s deck) c.in-Clash.is) ∙ c.loop-i.invariant.1 deck
 
 pub loop-i-preserved : goal.loop-i-preserved
 loop-i-preserved c =
-    let a = c.args in
-    let k : Named a.schema.now a.elements.now c.element_type-t.result.0 a.new c.loop-i.name.0 (item_is c.item_at-a.result)
-    c.if-next-name.name c.if-next-name.against =
-    elim c.if-next-name.branch [
-      | then-next-name w ↦ named w.name-is w.against-is w.compare_name-against-then-next-name.ensures c.name_or-next.ensures
-      | else-next-name w ↦ named w.name-is w.against-is c.loop-i.invariant.0 (sym w.if-next-name.false ∙ c.name_or-next.ensures)
-    ]
-    in
-    let read =
-    λ (deck : List ℕ).
-    item-read deck a.schema.now a.elements.now a.p.0 c.element_type-t.ensures a.new c.row_mult-mult.ensures k.compares c.loop-i.name.0
-    (list_of (model_of a.model.now) a.p.0) c.loop-i.i (search rules) (item_is c.item_at-a.result) c.item_at-a.ensures k.named c.lend_bounds-s.ensures
-    in
-    (k.compares, λ deck. read_more (read deck) c.in-To.is ∙ c.loop-i.invariant.1 deck)
+    let s = (goal.at.loop-i-preserved c).After-lend_bounds-s in
+    ((now-named s).compares, λ deck. read_more (read s deck) c.in-To.is ∙ c.loop-i.invariant.1 deck)
 
 pub returns : goal.returns
 returns c =
