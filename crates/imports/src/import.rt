@@ -78,6 +78,7 @@ pub fn import_at(
 }
 
 // The wanted place, not before the first and not behind the last.
+#[tactic(auto, unfolding(merge_rules::specs::Import::clamp))]
 pub fn clamp(wanted: usize, first: usize, last: usize) -> usize
     ensures { result ≡ clamp wanted first last }
 {

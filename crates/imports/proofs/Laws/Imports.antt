@@ -66,6 +66,10 @@ then-stop s k (Ok d) e n = absurd (n refl)
 then-stop s k (Err (Conflict c)) e n = rw (← e)
 then-stop s k (Err (Refused r)) e n = rw (← e)
 
+-- an answer that is an error is not done
+pub not-done : {o : Result (Unit {0}) Halt} {h : Halt} → o ≡ Err h → o ≡ Ok tt → ⊥
+not-done e d = grind arith
+
 -- ---- one list behind another
 
 -- two steps, one behind the other

@@ -1,5 +1,6 @@
 use Rattle.state_test.specs.StateTest.{fixed_in, state_in}
 use mathlib.Core.Path.{◌∙◌}
+use borrow.Author.Rules.{rules}
 use Rattle.imports.proofs.Laws.Imports.{clamp-within, single-places, single-no-row, single-conflict}
 use Rattle.imports.proofs.import.import_single_item.Goals as goal
 
@@ -14,7 +15,7 @@ pub returns-in-Ok : goal.returns-in-Ok
 returns-in-Ok c = record { by_index = λ deck. c.import_at.ensures.log_after ∙ single-places (fixed_in deck c.args.schema.now c.args.elements.now) (state_in c.args.model.now c.args.log.now) c.args.f.0 c.args.v c.args.p.0 c.args.e.0 c.args.wanted c.calc_element_insert_range-r.result (rw (← c.element_name-n.ensures) (c.calc_element_insert_range-r.ensures.is deck)) c.in-Ok.places c.clamp-at.result c.in-Ok.is c.clamp-at.ensures; keeps_state = c.import_at.ensures.keeps_state }
 
 pub returns-in-Err-NoRow : goal.returns-in-Err-NoRow
-returns-in-Err-NoRow c = record { by_index = λ deck. rw c.element_name-n.ensures (single-no-row (fixed_in deck c.args.schema.now c.args.elements.now) (state_in c.args.model.now c.args.log.now) c.args.f.0 c.args.v c.args.p.0 c.args.e.0 c.args.wanted c.calc_element_insert_range-r.result (rw (← c.element_name-n.ensures) (c.calc_element_insert_range-r.ensures.is deck)) (rw c.in-Err-NoRow.field-0-is at c.in-Err-NoRow.is)); keeps_state = λ n texts s. s }
+returns-in-Err-NoRow c = record { by_index = λ deck. rw c.element_name-n.ensures (single-no-row (fixed_in deck c.args.schema.now c.args.elements.now) (state_in c.args.model.now c.args.log.now) c.args.f.0 c.args.v c.args.p.0 c.args.e.0 c.args.wanted c.calc_element_insert_range-r.result (rw (← c.element_name-n.ensures) (c.calc_element_insert_range-r.ensures.is deck)) (search rules)); keeps_state = λ n texts s. s }
 
 pub returns-in-Err-Conflicting : goal.returns-in-Err-Conflicting
-returns-in-Err-Conflicting c = record { by_index = λ deck. single-conflict (fixed_in deck c.args.schema.now c.args.elements.now) (state_in c.args.model.now c.args.log.now) c.args.f.0 c.args.v c.args.p.0 c.args.e.0 c.args.wanted c.calc_element_insert_range-r.result (rw (← c.element_name-n.ensures) (c.calc_element_insert_range-r.ensures.is deck)) (rw c.in-Err-Conflicting.field-0-is at c.in-Err-Conflicting.is); keeps_state = λ n texts s. s }
+returns-in-Err-Conflicting c = record { by_index = λ deck. single-conflict (fixed_in deck c.args.schema.now c.args.elements.now) (state_in c.args.model.now c.args.log.now) c.args.f.0 c.args.v c.args.p.0 c.args.e.0 c.args.wanted c.calc_element_insert_range-r.result (rw (← c.element_name-n.ensures) (c.calc_element_insert_range-r.ensures.is deck)) (search rules); keeps_state = λ n texts s. s }

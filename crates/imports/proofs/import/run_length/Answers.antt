@@ -1,5 +1,5 @@
-use mathlib.Core.Path.{sym, ap, ◌∙◌}
-use Prim.Native.Nat.{ℕ, ◌+◌}
+use mathlib.Core.Path.{◌≡◌, sym, ap, ◌∙◌}
+use Prim.Native.Nat.{ℕ, ◌+◌, ◌-◌}
 use native.Mathlib.Omega.{arith}
 use Rattle.imports.proofs.Laws.Together.{run-one, run-longer, row_within}
 use Rattle.imports.proofs.import.run_length.Goals as goal
@@ -28,8 +28,8 @@ returns-then-next-at c =
 
 pub loop-k-preserved : goal.loop-k-preserved
 loop-k-preserved c =
-    (c.loop-k.invariant.0, run-longer c.args.work.now c.args.na c.args.ni c.args.i c.args.n c.args.room c.loop-k.k c.loop-k.invariant.1 c.loop-k-test.true c.if-room-k.false (sym c.row_place-next.ensures ∙ c.if-next-at.false ∙ ap (λ (z : ℕ). z + c.loop-k.k) c.loop-k.invariant.0))
+    (c.loop-k.invariant.0, run-longer c.args.work.now c.args.na c.args.ni c.args.i c.args.n c.args.room c.loop-k.k c.loop-k.invariant.1 (omega arith) c.if-room-k.false (sym c.row_place-next.ensures ∙ c.if-next-at.false ∙ ap (λ (z : ℕ). z + c.loop-k.k) c.loop-k.invariant.0))
 
 pub returns : goal.returns
 returns c =
-    c.loop-k.invariant.1
+    let all : c.loop-k.k ≡ c.args.ni - c.args.i = omega arith in rw (← all) c.loop-k.invariant.1
