@@ -37,7 +37,12 @@ pub fn files_of_pair(model: &[u64], files: FileSet, a: Element) -> FileSet
 }
 
 // An A with a set gains the new file.
-pub fn extend_pair(model: &mut [u64], log: &mut [u64], f: FileNumber, a: Element) -> Result<(), Halt>
+pub fn extend_pair(
+    model: &mut [u64],
+    log: &mut [u64],
+    f: FileNumber,
+    a: Element,
+) -> Result<(), Halt>
     requires good_model { GoodModel model.old }
     requires good_log { GoodLog log.old }
     requires a_bound { a.0 < count_of (model_of model.old) }
