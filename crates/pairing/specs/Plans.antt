@@ -1,12 +1,13 @@
 -- A level's plan in the scratch slice. For each child of A a row of two cells, its number and its mate's number + 1, or 0; then the B-only
 -- list, rows of two cells, element and position. Assumes nothing.
-use Rattle.std.specs.Prelude.{List, [], ◌∷◌, ◌++◌, ◌≡◌, ℕ, zero, suc, ◌+◌, ◌*◌, ◌<◌, ◌≤◌, length, get_or, take}
+use Rattle.std.specs.Prelude.{Result, Ok, Err, List, [], ◌∷◌, ◌++◌, ◌≡◌, ℕ, zero, suc, ◌+◌, ◌*◌, ◌<◌, ◌≤◌, length, get_or, take}
 use Rattle.std.proofs.Math.Option.{Option, none, some}
 use Rattle.tables.specs.Limits.{item_limit}
 use Rattle.tables.specs.Records.{Element, Version, Model, Fixed}
 use Rattle.merge_rules.specs.Pairing.{children_of, Pair, NewItem, Plan, Walked, planned, unmergeable_in, walk_level, first_used_twice}
-use Rattle.pairing.specs.declared.plan.Planned.{Planned}
-use Rattle.pairing.specs.declared.plan.Planned.TheVariants.{Rows, UsedTwice, Unmergeable}
+use Rattle.pairing.specs.declared.plan.Rows.{Rows}
+use Rattle.pairing.specs.declared.plan.Unplanned.{Unplanned}
+use Rattle.pairing.specs.declared.plan.Unplanned.TheVariants.{UsedTwice, Unmergeable}
 
 -- ---- rows
 
@@ -74,11 +75,15 @@ checked_plan bs unmergeable_in = level_unmergeable
 unfoldable pub plan_level : Fixed → Model → Version → Element → Element → LevelPlan
 plan_level x m v a b = checked_plan (children_of m b) (walk_level x m v a b)
 
--- what the code's answer stands for, with the scratch slice that it left
+-- the code's answer
+abbrev pub Planned : Type 0
+Planned = Result Rows Unplanned
+
+-- what it stands for, with the scratch slice that it left
 abbrev pub planned_is : Planned → List ℕ → LevelPlan
-planned_is (Rows na ni) w = level_plan (plan_in na ni w)
-planned_is (UsedTwice e) w = child_used_twice e.0
-planned_is Unmergeable w = level_unmergeable
+planned_is (Ok r) w = level_plan (plan_in r.first r.new w)
+planned_is (Err (UsedTwice e)) w = child_used_twice e.0
+planned_is (Err Unmergeable) w = level_unmergeable
 
 -- na rows of A and ni rows of the B-only list, of n elements
 pub record RowsIn (n : ℕ) (w : List ℕ) (na ni : ℕ) : Type 0 where
@@ -89,9 +94,8 @@ pub record RowsIn (n : ℕ) (w : List ℕ) (na ni : ℕ) : Type 0 where
   pub place : (i : ℕ) → i < na + ni → row_value w i ≤ item_limit
 
 abbrev pub PlanIn : ℕ → Planned → List ℕ → Type 0
-PlanIn n (Rows na ni) w = RowsIn n w na ni
-PlanIn n (UsedTwice e) w = Unit {0}
-PlanIn n Unmergeable w = Unit {0}
+PlanIn n (Ok r) w = RowsIn n w r.first r.new
+PlanIn n (Err e) w = Unit {0}
 
 -- ---- children copied
 

@@ -12,7 +12,7 @@ ghost use Rattle.table_test.specs.Fits.{GoodFixed, ModelOver};
 ghost use Rattle.pairing.specs.Actions.{Listed, Acts, Decides, Searches};
 ghost use Rattle.pairing.specs.Keys.{KeyMarks};
 
-use crate::keys::{Child, is_identifiable, key_of, sole_text, stored_text};
+use crate::keys::{is_identifiable, key_of, sole_text, stored_text};
 use crate::sibling::{same_key, sibling};
 use schema_calls::calls::{Found, row_of_name};
 use tables::elements::element_name;
@@ -29,13 +29,6 @@ pub enum Action {
     AOnly,
     BOnly,
     UnmergeableParent,
-}
-
-// What the cursor children alone decide, or that a B sibling is to be sought.
-#[derive(Clone, Copy)]
-pub enum Decision {
-    Act(Action),
-    Search,
 }
 
 fn path_of(schema: &[u64], t: TypeNumber, n: Name) -> Path
@@ -101,7 +94,7 @@ fn same_element_text(
     }
 }
 
-// With a cursor child on each side; the A parent is of type t.
+// What the cursor children alone decide; None where a B sibling is to be sought. The A parent is of type t.
 pub fn cursor_action(
     deck: &[u8],
     schema: &[u64],
@@ -110,7 +103,7 @@ pub fn cursor_action(
     t: TypeNumber,
     a: Element,
     b: Element,
-) -> Decision
+) -> Option<Action>
     requires good_fixed { GoodFixed deck.now schema.now elements.now }
     requires model_over { ModelOver elements.now model.now }
     requires t_in_bounds { t.0 < length (schema_of schema.now).types }
@@ -121,25 +114,25 @@ pub fn cursor_action(
     let m = element_name(elements, a);
     let n = element_name(elements, b);
     if m.0 != n.0 {
-        return Decision::Act(action_by_path(deck, schema, elements, t, a, b));
+        return Some(action_by_path(deck, schema, elements, t, a, b));
     }
     if is_identifiable(deck, schema, elements, model, a) {
         let key = key_of(deck, schema, elements, model, true, a);
         let other = key_of(deck, schema, elements, model, true, b);
         if same_key(deck, key, other) {
-            return Decision::Act(Action::MergeEqual);
+            return Some(Action::MergeEqual);
         }
-        return Decision::Search;
+        return None;
     }
     let key = key_of(deck, schema, elements, model, false, a);
     let other = key_of(deck, schema, elements, model, false, b);
     if same_key(deck, key, other) {
         if same_element_text(deck, schema, elements, model, a, b) {
-            return Decision::Act(Action::MergeEqual);
+            return Some(Action::MergeEqual);
         }
-        return Decision::Act(Action::AOnly);
+        return Some(Action::AOnly);
     }
-    Decision::Search
+    None
 }
 
 // Names equal and keys different, A identifiable.
@@ -163,12 +156,13 @@ fn calc_identifiables_merge(
     let key = key_of(deck, schema, elements, model, true, a);
     let found = sibling(deck, schema, elements, model, true, second, names, a, key);
     match found {
-        Child::Of(c) => Action::MergeUnequal(c),
-        Child::Missing => {
+        Some(c) => Action::MergeUnequal(c),
+        None => {
             if splittable {
-                return Action::AOnly;
+                Action::AOnly
+            } else {
+                Action::UnmergeableParent
             }
-            Action::UnmergeableParent
         }
     }
 }
@@ -203,8 +197,8 @@ fn calc_element_merge(
         key,
     );
     match found {
-        Child::Of(c) => Action::MergeUnequal(c),
-        Child::Missing => Action::AOnly,
+        Some(c) => Action::MergeUnequal(c),
+        None => Action::AOnly,
     }
 }
 

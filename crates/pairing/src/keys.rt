@@ -1,4 +1,4 @@
-// Pairing: texts, item names and definitions, by which elements are compared.
+// Pairing: texts, item names and definitions, by which elements are compared. A key is an item name or a definition: the place of a string of the deck.
 ghost use Rattle.std.specs.Prelude.{◌≡◌, ◌<◌, length, get_or};
 ghost use Rattle.tables.specs.Records.{enum_number, text_of, list_of};
 ghost use Rattle.tables.specs.ElementsTable.{elements_of, GoodElements};
@@ -16,19 +16,6 @@ use tables::model::{Item, item_at, list_length};
 use tables::numbers::Element;
 use tables::schema::type_named;
 use tables::text::{Place, Text, text_of};
-
-// An item name or a definition: a string of the deck.
-#[derive(Clone, Copy)]
-pub enum Key {
-    At(Place),
-    Missing,
-}
-
-#[derive(Clone, Copy)]
-pub enum Child {
-    Of(Element),
-    Missing,
-}
 
 const SHORT_NAME: u64 = 1;
 
@@ -61,32 +48,44 @@ pub fn sole_text(deck: &[u8], schema: &[u64], elements: &[u64], model: &[u64], e
 }
 
 // Text t, if it is a string.
-fn string_key(deck: &[u8], schema: &[u64], elements: &[u64], t: usize) -> Key
+fn string_key(deck: &[u8], schema: &[u64], elements: &[u64], t: usize) -> Option<Place>
     requires good_fixed { GoodFixed deck.now schema.now elements.now }
     requires t_in_bounds { t < length (elements_of elements.now).texts }
     ensures { Keys deck.now result (string_of (fixed_in deck.now schema.now elements.now) (text_of (fixed_in deck.now schema.now elements.now) t)) }
 {
     let x = stored_text(elements, t);
     match x {
-        Text::Str(p) => Key::At(p),
-        _ => Key::Missing,
+        Text::Str(p) => Some(p),
+        _ => None,
     }
 }
 
-fn sole_string(deck: &[u8], schema: &[u64], elements: &[u64], model: &[u64], e: Element) -> Key
+fn sole_string(
+    deck: &[u8],
+    schema: &[u64],
+    elements: &[u64],
+    model: &[u64],
+    e: Element,
+) -> Option<Place>
     requires good_fixed { GoodFixed deck.now schema.now elements.now }
     requires model_over { ModelOver elements.now model.now }
     requires e_in_bounds { e.0 < length (elements_of elements.now).names }
     ensures { Keys deck.now result (sole_string (fixed_in deck.now schema.now elements.now) (model_of model.now) e.0) }
 {
     let Found::At(t) = sole_text(deck, schema, elements, model, e) else {
-        return Key::Missing;
+        return None;
     };
     string_key(deck, schema, elements, t)
 }
 
 // The SHORT-NAME that is the element's first content item, where its type is named.
-fn identifier(deck: &[u8], schema: &[u64], elements: &[u64], model: &[u64], e: Element) -> Child
+fn identifier(
+    deck: &[u8],
+    schema: &[u64],
+    elements: &[u64],
+    model: &[u64],
+    e: Element,
+) -> Option<Element>
     requires good_fixed { GoodFixed deck.now schema.now elements.now }
     requires model_over { ModelOver elements.now model.now }
     requires e_in_bounds { e.0 < length (elements_of elements.now).names }
@@ -94,19 +93,19 @@ fn identifier(deck: &[u8], schema: &[u64], elements: &[u64], model: &[u64], e: E
 {
     let t = element_type(elements, e);
     if !type_named(schema, t) {
-        return Child::Missing;
+        return None;
     }
     if list_length(model, e) == 0 {
-        return Child::Missing;
+        return None;
     }
     let Item::Child(c) = item_at(model, e, 0) else {
-        return Child::Missing;
+        return None;
     };
     let n = element_name(elements, c);
     if n.0 != SHORT_NAME {
-        return Child::Missing;
+        return None;
     }
-    Child::Of(c)
+    Some(c)
 }
 
 pub fn is_identifiable(
@@ -121,11 +120,7 @@ pub fn is_identifiable(
     requires e_in_bounds { e.0 < length (elements_of elements.now).names }
     ensures { result ≡ identifiable (fixed_in deck.now schema.now elements.now) (model_of model.now) e.0 }
 {
-    let found = identifier(deck, schema, elements, model, e);
-    match found {
-        Child::Of(_) => true,
-        Child::Missing => false,
-    }
+    identifier(deck, schema, elements, model, e).is_some()
 }
 
 // The element's first DEFINITION-REF child.
@@ -135,49 +130,53 @@ pub fn definition_child(
     elements: &[u64],
     model: &[u64],
     e: Element,
-) -> Child
+) -> Option<Element>
     requires good_fixed { GoodFixed deck.now schema.now elements.now }
     requires model_over { ModelOver elements.now model.now }
     requires e_in_bounds { e.0 < length (elements_of elements.now).names }
     ensures { FindsChild (length (elements_of elements.now).names) result (definition_child (fixed_in deck.now schema.now elements.now) (model_of model.now) e.0) }
 {
-    let count = list_length(model, e);
-    let mut i: usize = 0;
-    while i < count {
-        let a = item_at(model, e, i);
-        i += 1;
-        let Item::Child(c) = a else {
+    for i in 0..list_length(model, e) {
+        let Item::Child(c) = item_at(model, e, i) else {
             continue;
         };
         let n = element_name(elements, c);
         if n.0 == DEFINITION_REF {
-            return Child::Of(c);
+            return Some(c);
         }
     }
-    Child::Missing
+    None
 }
 
-fn item_name(deck: &[u8], schema: &[u64], elements: &[u64], model: &[u64], e: Element) -> Key
+fn item_name(
+    deck: &[u8],
+    schema: &[u64],
+    elements: &[u64],
+    model: &[u64],
+    e: Element,
+) -> Option<Place>
     requires good_fixed { GoodFixed deck.now schema.now elements.now }
     requires model_over { ModelOver elements.now model.now }
     requires e_in_bounds { e.0 < length (elements_of elements.now).names }
     ensures { Keys deck.now result (item_name (fixed_in deck.now schema.now elements.now) (model_of model.now) e.0) }
 {
-    let Child::Of(c) = identifier(deck, schema, elements, model, e) else {
-        return Key::Missing;
-    };
+    let c = identifier(deck, schema, elements, model, e)?;
     sole_string(deck, schema, elements, model, c)
 }
 
-fn definition(deck: &[u8], schema: &[u64], elements: &[u64], model: &[u64], e: Element) -> Key
+fn definition(
+    deck: &[u8],
+    schema: &[u64],
+    elements: &[u64],
+    model: &[u64],
+    e: Element,
+) -> Option<Place>
     requires good_fixed { GoodFixed deck.now schema.now elements.now }
     requires model_over { ModelOver elements.now model.now }
     requires e_in_bounds { e.0 < length (elements_of elements.now).names }
     ensures { Keys deck.now result (definition (fixed_in deck.now schema.now elements.now) (model_of model.now) e.0) }
 {
-    let Child::Of(c) = definition_child(deck, schema, elements, model, e) else {
-        return Key::Missing;
-    };
+    let c = definition_child(deck, schema, elements, model, e)?;
     sole_string(deck, schema, elements, model, c)
 }
 
@@ -189,7 +188,7 @@ pub fn key_of(
     model: &[u64],
     by_name: bool,
     e: Element,
-) -> Key
+) -> Option<Place>
     requires good_fixed { GoodFixed deck.now schema.now elements.now }
     requires model_over { ModelOver elements.now model.now }
     requires e_in_bounds { e.0 < length (elements_of elements.now).names }
@@ -202,11 +201,8 @@ pub fn key_of(
 }
 
 // The place of a key; of a missing one, no byte.
-pub fn span_of(key: Key) -> Place
+pub fn span_of(key: Option<Place>) -> Place
     ensures { place_of result ≡ span_of key }
 {
-    match key {
-        Key::At(p) => p,
-        Key::Missing => Place { start: 0, size: 0 },
-    }
+    key.unwrap_or(Place { start: 0, size: 0 })
 }

@@ -8,14 +8,15 @@ ghost use Rattle.pairing.specs.Actions.{Listed};
 ghost use Rattle.pairing.specs.Keys.{key_is, KeyIn, key_by, key_mark, NoMark};
 ghost use Rattle.pairing.specs.Walks.{second_children, WritesMarks, MarkRoom, Marked};
 
-use crate::keys::{Key, key_of, span_of};
+use crate::keys::{key_of, span_of};
 use crate::plan::Sides;
 use tables::numbers::Element;
+use tables::text::Place;
 
 // So many marks are looked at together.
 const BLOCK: usize = 16;
 
-pub fn key_mark(deck: &[u8], key: Key) -> u16
+pub fn key_mark(deck: &[u8], key: Option<Place>) -> u16
     requires { KeyIn deck.now key }
     ensures { result ≡ key_mark (key_is deck.now key) }
 {

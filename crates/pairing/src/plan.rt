@@ -15,10 +15,16 @@ const IMPORTED: u8 = 2;
 
 const PAIRED: u8 = 4;
 
-// So many rows of A and of the B-only list; refusal 8 with the B child; refusal 6.
+// A plan: how many rows of A, and of the B-only list.
 #[derive(Clone, Copy)]
-pub enum Planned {
-    Rows(usize, usize),
+pub struct Rows {
+    pub first: usize,
+    pub new: usize,
+}
+
+// Refusal 8 with the B child; refusal 6.
+#[derive(Clone, Copy)]
+pub enum Unplanned {
     UsedTwice(Element),
     Unmergeable,
 }
@@ -170,7 +176,7 @@ pub fn import_rest(
 }
 
 // The plan, or the first child of B that it uses twice.
-pub fn used_twice(work: &[u16], uses: &[u8], s: Sides, new: usize) -> Planned
+pub fn used_twice(work: &[u16], uses: &[u8], s: Sides, new: usize) -> Result<Rows, Unplanned>
     requires work_room { WorkRoom s work.now s.rows (s.end - s.start) new }
     requires counted { Counted (plan_in s.rows new work.now) uses.now }
     ensures work_value { planned_is result work.now ≡ or_used_twice (plan_in s.rows new work.now) (first_used_twice (plan_in s.rows new work.now) (second_children s work.now)) }
@@ -182,9 +188,9 @@ pub fn used_twice(work: &[u16], uses: &[u8], s: Sides, new: usize) -> Planned
         let at = s.start + j;
         let e = work[at] as usize;
         if uses[e] % 2 == 1 {
-            return Planned::UsedTwice(Element(e));
+            return Err(Unplanned::UsedTwice(Element(e)));
         }
         j += 1;
     }
-    Planned::Rows(s.rows, new)
+    Ok(Rows { first: s.rows, new })
 }

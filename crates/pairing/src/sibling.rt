@@ -8,36 +8,25 @@ ghost use Rattle.table_test.specs.Fits.{GoodFixed, ModelOver};
 ghost use Rattle.pairing.specs.Actions.{Listed};
 ghost use Rattle.pairing.specs.Keys.{key_is, KeyIn, Keys, key_by, FindsChild, KeyMarks, has_key, span_of, Candidates};
 
-use crate::keys::{Child, Key, key_of, span_of};
+use crate::keys::{key_of, span_of};
 use crate::marks::{key_mark, next_marked};
 use tables::elements::element_name;
 use tables::numbers::{Element, Name};
-use tables::text::same_string;
+use tables::text::{Place, same_string};
 
-// Where the bytes of a sibling's key start, if its name, and the key's kind and size, are those sought.
-#[derive(Clone, Copy)]
-enum Candidate {
-    From(usize),
-    Skip,
-}
-
-pub fn same_key(deck: &[u8], a: Key, b: Key) -> bool
+pub fn same_key(deck: &[u8], a: Option<Place>, b: Option<Place>) -> bool
     requires key_in { KeyIn deck.now a }
     requires key_in_2 { KeyIn deck.now b }
     ensures { result ≡ same_key (key_is deck.now a) (key_is deck.now b) }
 {
-    match a {
-        Key::At(p) => match b {
-            Key::At(q) => same_string(p, q, deck),
-            Key::Missing => false,
-        },
-        Key::Missing => match b {
-            Key::At(_) => false,
-            Key::Missing => true,
-        },
+    match (a, b) {
+        (Some(p), Some(q)) => same_string(p, q, deck),
+        (None, None) => true,
+        _ => false,
     }
 }
 
+// Where the bytes of b's key start, if its name, and the key's kind and size, are those sought.
 fn candidate_at(
     deck: &[u8],
     schema: &[u64],
@@ -45,9 +34,9 @@ fn candidate_at(
     model: &[u64],
     by_name: bool,
     n: Name,
-    key: Key,
+    key: Option<Place>,
     b: Element,
-) -> Candidate
+) -> Option<usize>
     requires good_fixed { GoodFixed deck.now schema.now elements.now }
     requires model_over { ModelOver elements.now model.now }
     requires key_in { KeyIn deck.now key }
@@ -56,23 +45,19 @@ fn candidate_at(
 {
     let m = element_name(elements, b);
     if m.0 != n.0 {
-        return Candidate::Skip;
+        return None;
     }
     let k = key_of(deck, schema, elements, model, by_name, b);
-    match k {
-        Key::At(q) => match key {
-            Key::At(p) => {
-                if q.size == p.size {
-                    return Candidate::From(q.start);
-                }
-                Candidate::Skip
+    match (k, key) {
+        (Some(q), Some(p)) => {
+            if q.size == p.size {
+                Some(q.start)
+            } else {
+                None
             }
-            Key::Missing => Candidate::Skip,
-        },
-        Key::Missing => match key {
-            Key::At(_) => Candidate::Skip,
-            Key::Missing => Candidate::From(0),
-        },
+        }
+        (None, None) => Some(0),
+        _ => None,
     }
 }
 
@@ -86,8 +71,8 @@ pub fn sibling(
     second: &[u16],
     marks: &[u16],
     a: Element,
-    key: Key,
-) -> Child
+    key: Option<Place>,
+) -> Option<Element>
     requires good_fixed { GoodFixed deck.now schema.now elements.now }
     requires model_over { ModelOver elements.now model.now }
     requires listed { Listed (length (elements_of elements.now).names) second.now }
@@ -105,21 +90,18 @@ pub fn sibling(
     'siblings: loop {
         let at = next_marked(marks, k, mark);
         if second.len() <= at {
-            break Child::Missing;
+            break None;
         }
         k = at + 1;
         let b = Element(second[at] as usize);
-        let Candidate::From(s) = candidate_at(deck, schema, elements, model, by_name, n, key, b)
-        else {
+        let Some(s) = candidate_at(deck, schema, elements, model, by_name, n, key, b) else {
             continue;
         };
-        let mut j: usize = 0;
-        while j < size {
+        for j in 0..size {
             if deck[s + j] != deck[start + j] {
                 continue 'siblings;
             }
-            j += 1;
         }
-        break Child::Of(b);
+        break Some(b);
     }
 }

@@ -12,10 +12,10 @@ ghost use Rattle.pairing.specs.Plans.{planned_is, PlanIn, plan_level, checked_pl
 ghost use Rattle.table_test.specs.Fits.{GoodFixed, ModelOver};
 ghost use Rattle.pairing.specs.Walks.{first_children, second_children, next_action, walk_on, MarkRoom, Marked, MarkedIf, WorkRoom, Ranged, Alone};
 
-use crate::action::{Action, Decision, cursor_action, search_action};
+use crate::action::{Action, cursor_action, search_action};
 use crate::children::copy_sides;
 use crate::marks::mark_children;
-use crate::plan::{Cursors, Planned, Sides, advance, import_rest, pair_first, used_twice};
+use crate::plan::{Cursors, Rows, Sides, Unplanned, advance, import_rest, pair_first, used_twice};
 use schema_calls::calls::splittable_in;
 use tables::elements::element_type;
 use tables::model::list_length;
@@ -130,8 +130,8 @@ fn next_action(
     let b = Element(work[at] as usize);
     let decision = cursor_action(deck, schema, elements, model, t, a, b);
     match decision {
-        Decision::Act(act) => Next { act, marked },
-        Decision::Search => {
+        Some(act) => Next { act, marked },
+        None => {
             let act = search_children(
                 deck, schema, elements, model, splittable, work, s, a, marked,
             );
@@ -151,7 +151,7 @@ fn walk(
     work: &mut [u16],
     s: Sides,
     end: usize,
-) -> Planned
+) -> Result<Rows, Unplanned>
     requires good_fixed { GoodFixed deck.now schema.now elements.now }
     requires model_over { ModelOver elements.now model.now }
     requires t_in_bounds { t.0 < length (schema_of schema.now).types }
@@ -171,7 +171,7 @@ fn walk(
         marked = next.marked;
         let act = next.act;
         if let Action::UnmergeableParent = act {
-            return Planned::Unmergeable;
+            return Err(Unplanned::Unmergeable);
         }
         c = advance(work, &mut uses, s, c, act);
     }
@@ -206,13 +206,7 @@ fn pair_alone(
     let a = Element(work[0] as usize);
     let b = Element(work[at] as usize);
     let decision = cursor_action(deck, schema, elements, model, t, a, b);
-    let Decision::Act(act) = decision else {
-        return false;
-    };
-    if let Action::MergeEqual = act {
-        return true;
-    }
-    false
+    matches!(decision, Some(Action::MergeEqual))
 }
 
 // The plan of the level of a and b, in the scratch slice.
@@ -225,7 +219,7 @@ pub fn plan_level(
     a: Element,
     b: Element,
     work: &mut [u16],
-) -> Planned
+) -> Result<Rows, Unplanned>
     requires good_fixed { GoodFixed deck.now schema.now elements.now }
     requires model_over { ModelOver elements.now model.now }
     requires a_in_bounds { a.0 < length (elements_of elements.now).names }
@@ -237,12 +231,15 @@ pub fn plan_level(
 {
     let s = copy_sides(model, a, b, work);
     if s.end == s.start {
-        return Planned::Rows(s.rows, 0);
+        return Ok(Rows {
+            first: s.rows,
+            new: 0,
+        });
     }
     let t = element_type(elements, a);
     if pair_alone(deck, schema, elements, model, t, work, s) {
         pair_first(work, s.start);
-        return Planned::Rows(1, 0);
+        return Ok(Rows { first: 1, new: 0 });
     }
     let splittable = splittable_in(schema, t, v);
     let end = list_length(model, a);

@@ -16,7 +16,7 @@ use imports::import::{clamp, import_at};
 use insert_range::range::calc_element_insert_range;
 use merge_log::log::{extend, place_of, restrict, rollback_merge};
 use merge_log::refusals::{Halt, Refusal};
-use pairing::keys::{Child, definition_child, is_identifiable};
+use pairing::keys::{definition_child, is_identifiable};
 use schema_calls::calls::{Found, splittable_in};
 use tables::elements::{element_name, element_type};
 use tables::file_set::FileSet;
@@ -67,11 +67,7 @@ fn is_keyed(deck: &[u8], schema: &[u64], elements: &[u64], model: &[u64], a: Ele
     if is_identifiable(deck, schema, elements, model, a) {
         return true;
     }
-    let found = definition_child(deck, schema, elements, model, a);
-    match found {
-        Child::Of(_) => true,
-        Child::Missing => false,
-    }
+    definition_child(deck, schema, elements, model, a).is_some()
 }
 
 // A's first place in the list of p, 0 if none, and 1.

@@ -22,15 +22,11 @@ use Rattle.schema_calls.specs.declared.calls.Found.TheVariants.{At as FoundAt, M
 use Rattle.schema_calls.specs.Calls.{Finds}
 use Rattle.schema_calls.proofs.Laws.Scans.{found-at, found-missing}
 use Rattle.merge_rules.specs.Pairing.{sole_text, element_text, identifiable, item_name, definition, same_key, same_texts, Action, a_only, b_only, sibling, calc_identifiables_merge, calc_element_merge, path_of, action_by_path, action_of}
-use Rattle.pairing.specs.declared.keys.Key.{Key}
-use Rattle.pairing.specs.declared.keys.Child.{Child}
-use Rattle.pairing.specs.declared.keys.Child.TheVariants.{Of, Missing as NoChild}
+use Rattle.std.specs.Prelude.{Some, None}
 use Rattle.pairing.specs.declared.action.Action as program
 use Rattle.pairing.specs.declared.action.Action.TheVariants.{MergeEqual, MergeUnequal, AOnly, BOnly, UnmergeableParent}
-use Rattle.pairing.specs.declared.action.Decision.{Decision}
-use Rattle.pairing.specs.declared.action.Decision.TheVariants.{Act, Search}
-use Rattle.pairing.specs.Actions.{Acts, Sought, Decides}
-use Rattle.pairing.specs.Keys.{key_is, Keys, key_by, FindsChild}
+use Rattle.pairing.specs.Actions.{Acts, Sought, Decision, Decides}
+use Rattle.pairing.specs.Keys.{Key, key_is, Keys, key_by, Child, FindsChild}
 use Rattle.pairing.proofs.Laws.Keys.{child-at, child-within, child-missing}
 
 -- ---- names differ
@@ -108,24 +104,24 @@ module _ (x : Fixed) (m : Model) (a b : ℕ) {r s : Found} (f : Finds (enum_numb
 -- ---- the search
 
 module _ (n : ℕ) (x : Fixed) (m : Model) (splittable : Bool) (bs : List ℕ) (a b : ℕ) (d : same_key (item_name x m a) (item_name x m b) ≡ false) {r : Child} (f : FindsChild n r (sibling x (item_name x m) bs a)) where
-  pub named-sibling : {c : numbers.Element} → r ≡ Of c → Acts n (MergeUnequal c) (calc_identifiables_merge x m splittable bs a b)
+  pub named-sibling : {c : numbers.Element} → r ≡ Some c → Acts n (MergeUnequal c) (calc_identifiables_merge x m splittable bs a b)
   unfolding calc_identifiables_merge
   named-sibling g = record { is = rw (calc_identifiables_merge, d, child-at f g); within = child-within f g }
 
-  pub named-split : r ≡ NoChild → splittable ≡ true → Acts n AOnly (calc_identifiables_merge x m splittable bs a b)
+  pub named-split : r ≡ None → splittable ≡ true → Acts n AOnly (calc_identifiables_merge x m splittable bs a b)
   unfolding calc_identifiables_merge
   named-split g s = record { is = rw (calc_identifiables_merge, d, child-missing f g, s); within = tt }
 
-  pub named-unmergeable : r ≡ NoChild → splittable ≡ false → Acts n UnmergeableParent (calc_identifiables_merge x m splittable bs a b)
+  pub named-unmergeable : r ≡ None → splittable ≡ false → Acts n UnmergeableParent (calc_identifiables_merge x m splittable bs a b)
   unfolding calc_identifiables_merge
   named-unmergeable g s = record { is = rw (calc_identifiables_merge, d, child-missing f g, s); within = tt }
 
 module _ (n : ℕ) (x : Fixed) (m : Model) (bs : List ℕ) (a b : ℕ) (d : same_key (definition x m a) (definition x m b) ≡ false) {r : Child} (f : FindsChild n r (sibling x (definition x m) bs a)) where
-  pub defined-sibling : {c : numbers.Element} → r ≡ Of c → Acts n (MergeUnequal c) (calc_element_merge x m bs a b)
+  pub defined-sibling : {c : numbers.Element} → r ≡ Some c → Acts n (MergeUnequal c) (calc_element_merge x m bs a b)
   unfolding calc_element_merge
   defined-sibling g = record { is = rw (calc_element_merge, d, child-at f g); within = child-within f g }
 
-  pub defined-none : r ≡ NoChild → Acts n AOnly (calc_element_merge x m bs a b)
+  pub defined-none : r ≡ None → Acts n AOnly (calc_element_merge x m bs a b)
   unfolding calc_element_merge
   defined-none g = record { is = rw (calc_element_merge, d, child-missing f g); within = tt }
 
@@ -154,31 +150,31 @@ names-by : (x : Fixed) (a b : ℕ) {na nb : ℕ} → na ≡ name_of x a → nb �
 names-by x a b ea eb = sym (λ i. eqb (ea i) (eb i))
 
 module _ (n : ℕ) (x : Fixed) (m : Model) (t a b : ℕ) {na nb : ℕ} (ea : na ≡ name_of x a) (eb : nb ≡ name_of x b) where
-  pub decide-path : (na ≡ nb → ⊥) → {r : program.Action} → Acts n r (action_by_path x t a b) → Decides n x m t a b (Act r)
+  pub decide-path : (na ≡ nb → ⊥) → {r : program.Action} → Acts n r (action_by_path x t a b) → Decides n x m t a b (Some r)
   unfolding action_of
   decide-path h s =
       record { is = λ splittable bs. record { is = s.is ∙ rw (action_of, names-by x a b ea eb ∙ ne_eqb na nb h); within = s.within } }
 
   module _ (h : na ≡ nb) {i : Bool} (ei : i ≡ identifiable x m a) {j k : Key} (fa : Keys x.deck j (key_by i x m a)) (fb : Keys x.deck k (key_by i x m b))
       {o : Bool} (e : o ≡ same_key (key_is x.deck j) (key_is x.deck k)) where
-    pub decide-search : o ≡ false → Decides n x m t a b Search
+    pub decide-search : o ≡ false → Decides n x m t a b None
     decide-search g = record { is = record { name = sym ea ∙ h ∙ eb; key = rw (← ei) (keys-same fa fb e ∙ g) } }
 
     module _ (g : o ≡ true) where
-      pub decide-named : i ≡ true → Decides n x m t a b (Act MergeEqual)
+      pub decide-named : i ≡ true → Decides n x m t a b (Some MergeEqual)
       unfolding action_of calc_identifiables_merge
       decide-named l =
           let same = rw l at (keys-same fa fb e ∙ g) in
           record { is = λ splittable bs. record { is = rw (action_of, names-by x a b ea eb ∙ eq-eqb na nb h, sym ei ∙ l, calc_identifiables_merge, same); within = tt } }
 
       module _ (l : i ≡ false) {r : Bool} (er : r ≡ same_texts x (element_text x m a) (element_text x m b)) where
-        pub decide-texts : r ≡ true → Decides n x m t a b (Act MergeEqual)
+        pub decide-texts : r ≡ true → Decides n x m t a b (Some MergeEqual)
         unfolding action_of calc_element_merge
         decide-texts p =
             let same = rw l at (keys-same fa fb e ∙ g) in
             record { is = λ splittable bs. record { is = rw (action_of, names-by x a b ea eb ∙ eq-eqb na nb h, sym ei ∙ l, calc_element_merge, same, sym er ∙ p); within = tt } }
 
-        pub decide-first : r ≡ false → Decides n x m t a b (Act AOnly)
+        pub decide-first : r ≡ false → Decides n x m t a b (Some AOnly)
         unfolding action_of calc_element_merge
         decide-first p =
             let same = rw l at (keys-same fa fb e ∙ g) in
@@ -186,8 +182,8 @@ module _ (n : ℕ) (x : Fixed) (m : Model) (t a b : ℕ) {na nb : ℕ} (ea : na 
 
 -- one step decides, or both
 module _ {n : ℕ} {x : Fixed} {m : Model} {t a b : ℕ} {d : Decision} (decides : Decides n x m t a b d) where
-  pub decided : {r : program.Action} → d ≡ Act r → (splittable : Bool) (bs : List ℕ) → Acts n r (action_of x m t splittable bs a b)
+  pub decided : {r : program.Action} → d ≡ Some r → (splittable : Bool) (bs : List ℕ) → Acts n r (action_of x m t splittable bs a b)
   decided e = (rw e at decides).is
 
-  pub sought : d ≡ Search → Sought x m a b
+  pub sought : d ≡ None → Sought x m a b
   sought e = (rw e at decides).is

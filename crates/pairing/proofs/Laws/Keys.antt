@@ -34,12 +34,9 @@ use Rattle.schema_calls.specs.declared.calls.Found.TheVariants.{At as FoundAt, M
 use Rattle.schema_calls.specs.Calls.{Finds, found_in}
 use Rattle.schema_calls.proofs.Laws.Scans.{found-at, found-missing}
 use Rattle.merge_rules.specs.Pairing.{children, children_of, string_of, sole_text, element_text, sole_string, leading_short_name, identifier, identifiable, item_name, definition_child, definition}
-use Rattle.pairing.specs.declared.keys.Key.{Key}
-use Rattle.pairing.specs.declared.keys.Key.TheVariants.{At, Missing as NoKey}
-use Rattle.pairing.specs.declared.keys.Child.{Child}
-use Rattle.pairing.specs.declared.keys.Child.TheVariants.{Of, Missing as NoChild}
+use Rattle.std.specs.Prelude.{Some, None, is_some}
 use Rattle.table_test.specs.Fits.{GoodFixed, ModelFits}
-use Rattle.pairing.specs.Keys.{Keys, child_is, ChildIn, FindsChild}
+use Rattle.pairing.specs.Keys.{Key, Keys, Child, child_is, ChildIn, FindsChild}
 use Rattle.table_test.proofs.Laws.Tested.{type-in}
 
 -- ---- numbers in range
@@ -84,7 +81,7 @@ value_in deck (float b) h = tt
 pub stored-in : {deck schema es : List ℕ} → GoodFixed deck schema es → (t : ℕ) → t < length (elements_of es).texts → {v : code_text.Text} → v ≡ value_of (get_or (elements_of es).texts t (enum_number 0)) → text_in deck v
 stored-in {deck = deck} {es = es} g t h e = subst (text_in deck) (sym e) (value_in deck (get_or (elements_of es).texts t (enum_number 0)) (stored-fits t h g))
 
-pub string-is : (x : Fixed) (t : Text) → TextIn (length x.deck) t → {v : code_text.Text} → v ≡ value_of t → {p : code.Place} → v ≡ Str p → Keys x.deck (At p) (string_of x t)
+pub string-is : (x : Fixed) (t : Text) → TextIn (length x.deck) t → {v : code_text.Text} → v ≡ value_of t → {p : code.Place} → v ≡ Str p → Keys x.deck (Some p) (string_of x t)
 unfolding value_of string_of
 string-is x (enum_number n) h e {p} k =
     let y : Number n ≡ Str p = sym e ∙ k in
@@ -103,7 +100,7 @@ string-is x (float b) h e {p} k =
     let z : ◌≡◌ {A = ℕ} 0 1 = cc in
     absurd (omega arith)
 
-pub not-string : (x : Fixed) (t : Text) {v : code_text.Text} → v ≡ value_of t → ((p : code.Place) → v ≡ Str p → ⊥) → Keys x.deck NoKey (string_of x t)
+pub not-string : (x : Fixed) (t : Text) {v : code_text.Text} → v ≡ value_of t → ((p : code.Place) → v ≡ Str p → ⊥) → Keys x.deck None (string_of x t)
 unfolding value_of string_of
 not-string x (enum_number n) e k = record { is = refl; within = tt }
 not-string x (string p) e k = absurd (k (record { start = p.start; size = p.size }) e)
@@ -142,7 +139,7 @@ module _ (x : Fixed) (l : List Item) {n : ℕ} (en : n ≡ length l) where
     sole-is k h = record { is = sole-as k; within = h }
 
 module _ (x : Fixed) (m : Model) (e : ℕ) {r : Found} (f : Finds (enum_number 0) x.elements.texts r (sole_text x (list_of m e))) where
-  pub string-missing : r ≡ NotFound → Keys x.deck NoKey (sole_string x m e)
+  pub string-missing : r ≡ NotFound → Keys x.deck None (sole_string x m e)
   unfolding sole_string element_text
   string-missing k = record { is = rw (sole_string, element_text, found-missing f k); within = tt }
 
@@ -153,13 +150,13 @@ module _ (x : Fixed) (m : Model) (e : ℕ) {r : Found} (f : Finds (enum_number 0
 -- ---- what an answer tells
 
 module _ {n : ℕ} {r : Child} {o : Option ℕ} (f : FindsChild n r o) where
-  pub child-at : {c : numbers.Element} → r ≡ Of c → o ≡ some c.0
+  pub child-at : {c : numbers.Element} → r ≡ Some c → o ≡ some c.0
   child-at k = sym f.is ∙ ap child_is k
 
-  pub child-within : {c : numbers.Element} → r ≡ Of c → c.0 < n
+  pub child-within : {c : numbers.Element} → r ≡ Some c → c.0 < n
   child-within k = subst (ChildIn n) k f.within
 
-  pub child-missing : r ≡ NoChild → o ≡ none
+  pub child-missing : r ≡ None → o ≡ none
   child-missing k = sym f.is ∙ ap child_is k
 
 -- ---- the identifier
@@ -179,7 +176,7 @@ module _ (n : ℕ) (x : Fixed) (m : Model) (e : ℕ) {t : ℕ} (et : t ≡ type_
   named-is : (type_row x.schema (type_of x e)).named ≡ b
   named-is = sym (eb ∙ ap (λ (u : ℕ). (type_row x.schema u).named) et)
 
-  pub identifier-unnamed : b ≡ false → FindsChild n NoChild (identifier x m e)
+  pub identifier-unnamed : b ≡ false → FindsChild n None (identifier x m e)
   unfolding identifier
   identifier-unnamed k = record { is = rw (identifier, named-is ∙ k); within = tt }
 
@@ -188,7 +185,7 @@ module _ (n : ℕ) (x : Fixed) (m : Model) (e : ℕ) {t : ℕ} (et : t ≡ type_
     unfolding identifier
     named-identifier = rw (identifier, named-is ∙ named)
 
-    pub identifier-empty : size ≡ 0 → FindsChild n NoChild (identifier x m e)
+    pub identifier-empty : size ≡ 0 → FindsChild n None (identifier x m e)
     identifier-empty k = record { is = sym (named-identifier ∙ leading-none x (list_of m e) (sym es ∙ k)); within = tt }
 
     module _ (some_item : size ≡ 0 → ⊥) {a : program.Item} (ea : item_is a ≡ get_or (list_of m e) 0 (child 0)) where
@@ -196,42 +193,39 @@ module _ (n : ℕ) (x : Fixed) (m : Model) (e : ℕ) {t : ℕ} (et : t ≡ type_
       identifier-as k =
           named-identifier ∙ leading-first x (list_of m e) (λ z. some_item (es ∙ z)) ∙ ap (λ (i : Item). leading_short_name x (i ∷ [])) (sym ea ∙ ap item_is k)
 
-      pub identifier-text : {i : ℕ} → a ≡ TextItem i → FindsChild n NoChild (identifier x m e)
+      pub identifier-text : {i : ℕ} → a ≡ TextItem i → FindsChild n None (identifier x m e)
       unfolding leading_short_name
       identifier-text k = record { is = sym (identifier-as k); within = tt }
 
       module _ {c : numbers.Element} (k : a ≡ ChildItem c) {name : ℕ} (en : name ≡ name_of x c.0) where
-        pub identifier-other : (name ≡ short_name → ⊥) → FindsChild n NoChild (identifier x m e)
+        pub identifier-other : (name ≡ short_name → ⊥) → FindsChild n None (identifier x m e)
         unfolding leading_short_name
         identifier-other h = record { is = sym (identifier-as k ∙ rw (leading_short_name, ← en, ne_eqb name 1 h)); within = tt }
 
-        pub identifier-is : name ≡ short_name → c.0 < n → FindsChild n (Of c) (identifier x m e)
+        pub identifier-is : name ≡ short_name → c.0 < n → FindsChild n (Some c) (identifier x m e)
         unfolding leading_short_name
         identifier-is h l = record { is = sym (identifier-as k ∙ rw (leading_short_name, ← en, eq-eqb name 1 h)); within = l }
 
+pub identifiable-is : (x : Fixed) (m : Model) (e : ℕ) {n : ℕ} (r : Child) → FindsChild n r (identifier x m e) → is_some r ≡ identifiable x m e
+unfolding identifiable
+identifiable-is x m e (Some c) f = rw (identifiable, child-at f refl)
+identifiable-is x m e None f = rw (identifiable, child-missing f refl)
+
 module _ (x : Fixed) (m : Model) (e : ℕ) {n : ℕ} {r : Child} (f : FindsChild n r (identifier x m e)) where
-  pub identifiable-is : {c : numbers.Element} → r ≡ Of c → true ≡ identifiable x m e
-  unfolding identifiable
-  identifiable-is k = rw (identifiable, child-at f k)
-
-  pub identifiable-not : r ≡ NoChild → false ≡ identifiable x m e
-  unfolding identifiable
-  identifiable-not k = rw (identifiable, child-missing f k)
-
-  pub name-missing : r ≡ NoChild → Keys x.deck NoKey (item_name x m e)
+  pub name-missing : r ≡ None → Keys x.deck None (item_name x m e)
   unfolding item_name
   name-missing k = record { is = rw (item_name, child-missing f k); within = tt }
 
-  pub name-found : {c : numbers.Element} → r ≡ Of c → {q : Key} → Keys x.deck q (sole_string x m c.0) → Keys x.deck q (item_name x m e)
+  pub name-found : {c : numbers.Element} → r ≡ Some c → {q : Key} → Keys x.deck q (sole_string x m c.0) → Keys x.deck q (item_name x m e)
   unfolding item_name
   name-found k s = record { is = s.is ∙ rw (item_name, child-at f k); within = s.within }
 
 module _ (x : Fixed) (m : Model) (e : ℕ) {n : ℕ} {r : Child} (f : FindsChild n r (definition_child x m e)) where
-  pub definition-missing : r ≡ NoChild → Keys x.deck NoKey (definition x m e)
+  pub definition-missing : r ≡ None → Keys x.deck None (definition x m e)
   unfolding definition
   definition-missing k = record { is = rw (definition, child-missing f k); within = tt }
 
-  pub definition-found : {c : numbers.Element} → r ≡ Of c → {q : Key} → Keys x.deck q (sole_string x m c.0) → Keys x.deck q (definition x m e)
+  pub definition-found : {c : numbers.Element} → r ≡ Some c → {q : Key} → Keys x.deck q (sole_string x m c.0) → Keys x.deck q (definition x m e)
   unfolding definition
   definition-found k s = record { is = s.is ∙ rw (definition, child-at f k); within = s.within }
 
@@ -254,7 +248,7 @@ module _ (x : Fixed) (m : Model) (e : ℕ) where
   definition-start = refl
 
   module _ (n i : ℕ) (left : first_of (is_definition x) (children (drop i (list_of m e))) ≡ definition_child x m e) where
-    pub definition-end : length (list_of m e) ≤ i → FindsChild n NoChild (definition_child x m e)
+    pub definition-end : length (list_of m e) ≤ i → FindsChild n None (definition_child x m e)
     unfolding children first_of
     definition-end h =
         record { is = sym (ap (λ (l : List Item). first_of (is_definition x) (children l)) (drop_of_length-le (list_of m e) {i = i} h)) ∙ left; within = tt }
@@ -276,7 +270,7 @@ module _ (x : Fixed) (m : Model) (e : ℕ) where
         definition-other z =
             sym (first-no (is_definition x) c.0 (children (drop (i + 1) (list_of m e))) (rw (← en) (ne_eqb name 2 z))) ∙ here k
 
-        pub definition-is : name ≡ definition_ref → c.0 < n → FindsChild n (Of c) (definition_child x m e)
+        pub definition-is : name ≡ definition_ref → c.0 < n → FindsChild n (Some c) (definition_child x m e)
         unfolding children
         definition-is z l =
             record {

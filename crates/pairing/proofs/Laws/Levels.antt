@@ -10,11 +10,10 @@ use Rattle.tables.specs.Records.{Element}
 use Rattle.merge_rules.specs.Pairing.{Action, merge_equal, b_only, unmergeable_parent, planned, first_used_twice}
 use Rattle.pairing.specs.declared.plan.Sides.{Sides}
 use Rattle.pairing.specs.declared.plan.Cursors.{Cursors}
-use Rattle.pairing.specs.declared.plan.Planned.{Planned}
 use Rattle.pairing.specs.declared.action.Action as program
 use Rattle.pairing.specs.declared.action.Action.TheVariants.{MergeEqual, MergeUnequal, AOnly, BOnly, UnmergeableParent}
 use Rattle.pairing.specs.Actions.{action_is, Acts}
-use Rattle.pairing.specs.Plans.{spread, plan_up_to, plan_in, planned_is, level_unmergeable, or_used_twice, checked_plan}
+use Rattle.pairing.specs.Plans.{spread, plan_up_to, plan_in, Planned, planned_is, level_unmergeable, or_used_twice, checked_plan}
 use Rattle.pairing.specs.Walks.{first_children, second_children, next_action, StepIn, walk_on, pair_uses, import_uses, use_of, Counted, Planning, WorkRoom, Ranged, Advances, Finishes}
 use Rattle.pairing.proofs.Laws.Planning.{next-other, planning-neither, planning-end, planning-start}
 use Rattle.pairing.proofs.Laws.Rows.{CellsKept, front_kept, plan-kept, elements-kept, length-first, length-second, second-behind, front_at, second-front}

@@ -19,10 +19,9 @@ use Rattle.tables.proofs.Laws.Cases.{bool-split}
 use Rattle.merge_rules.specs.Pairing.{item_name, definition, same_key}
 use Rattle.merge_rules.proofs.Laws.Cases.{same-or-other}
 use Rattle.tables.proofs.Laws.Lists.{same_lists}
-use Rattle.pairing.specs.declared.keys.Key.{Key}
-use Rattle.pairing.specs.declared.keys.Key.TheVariants.{At, Missing as NoKey}
+use Rattle.std.specs.Prelude.{Some, None}
 use Rattle.pairing.specs.declared.plan.Sides.{Sides}
-use Rattle.pairing.specs.Keys.{key_is, span_of, mark_of, key_mark, KeyMarks, NoMark, has_key}
+use Rattle.pairing.specs.Keys.{Key, key_is, span_of, mark_of, key_mark, KeyMarks, NoMark, has_key}
 use Rattle.pairing.specs.Walks.{second_children, marks_from, WritesMarks, Marked}
 use Rattle.pairing.proofs.Laws.Siblings.{siblings-past}
 use Rattle.pairing.proofs.Laws.Rows.{length_part, get_d_part, front_at, part-kept, second-behind, second-front}
@@ -111,8 +110,8 @@ module _ (deck : List ℕ) (start size : ℕ) (fits : start + size ≤ length de
 
 span-whole : (deck : List ℕ) (k : Key) → mark_of 0 (take (span_of k).size (drop (span_of k).start deck)) ≡ key_mark (key_is deck k)
 unfolding mark_of key_mark bytes_at
-span-whole deck (At p) = refl
-span-whole deck NoKey = refl
+span-whole deck (Some p) = refl
+span-whole deck None = refl
 
 pub span-mark : (deck : List ℕ) (k : Key) {p : code.Place} → place_of p ≡ span_of k → mark_of 0 (take p.size (drop p.start deck)) ≡ key_mark (key_is deck k)
 span-mark deck k e = ap (λ (p : Place). mark_of 0 (take p.size (drop p.start deck))) e ∙ span-whole deck k

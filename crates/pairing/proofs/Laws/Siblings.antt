@@ -15,16 +15,13 @@ use Rattle.tables.specs.Texts.{bytes_at, place_of, place_in}
 use Rattle.tables.specs.declared.text.Place as code
 use Rattle.tables.proofs.Laws.Texts.{bytes-start, bytes-more, bytes-differ, bytes-end, sizes-differ}
 use Rattle.merge_rules.specs.Pairing.{same_key, sibling}
-use Rattle.pairing.specs.declared.keys.Key.{Key}
-use Rattle.pairing.specs.declared.keys.Key.TheVariants.{At, Missing as NoKey}
-use Rattle.pairing.specs.declared.sibling.Candidate.{Candidate}
-use Rattle.pairing.specs.declared.sibling.Candidate.TheVariants.{From, Skip}
-use Rattle.pairing.specs.Keys.{key_is, KeyIn, Keys, has_key, span_of, CandidateIs, Candidates}
+use Rattle.std.specs.Prelude.{Some, None}
+use Rattle.pairing.specs.Keys.{Key, key_is, KeyIn, Keys, has_key, span_of, Candidate, CandidateIs, Candidates}
 use Rattle.pairing.proofs.Laws.Keys.{first-yes, first-no}
 
 span-in : (deck : List ℕ) (k : Key) → KeyIn deck k → (span_of k).start + (span_of k).size ≤ length deck
-span-in deck (At p) h = h
-span-in deck NoKey h = omega arith
+span-in deck (Some p) h = h
+span-in deck None h = omega arith
 
 pub span_fits : (deck : List ℕ) (k : Key) → KeyIn deck k → {p : code.Place} → place_of p ≡ span_of k → p.start + p.size ≤ length deck
 span_fits deck k h e = subst (λ (w : Place). w.start + w.size ≤ length deck) (sym e) (span-in deck k h)
@@ -32,26 +29,26 @@ span_fits deck k h e = subst (λ (w : Place). w.start + w.size ≤ length deck) 
 -- ---- one sibling
 
 module _ (x : Fixed) (key : Element → Option (List ℕ)) (n : ℕ) (k : Key) (b : ℕ) {name : ℕ} (en : name ≡ name_of x b) where
-  pub other_name : (name ≡ n → ⊥) → Candidates x.deck (span_of k) (has_key x key n (key_is x.deck k) b) Skip
+  pub other_name : (name ≡ n → ⊥) → Candidates x.deck (span_of k) (has_key x key n (key_is x.deck k) b) None
   other_name h = record { is = rw (← en, ne_eqb name n h) }
 
   module _ (same : name ≡ n) {j : Key} (f : Keys x.deck j (key b)) where
     key-decides : has_key x key n (key_is x.deck k) b ≡ same_key (key_is x.deck j) (key_is x.deck k)
     key-decides = rw (← en, eq-eqb name n same, ← f.is)
 
-    pub both-missing : j ≡ NoKey → k ≡ NoKey → Candidates x.deck (span_of k) (has_key x key n (key_is x.deck k) b) (From 0)
+    pub both-missing : j ≡ None → k ≡ None → Candidates x.deck (span_of k) (has_key x key n (key_is x.deck k) b) (Some 0)
     unfolding same_key same_list
     both-missing hj hk = record { is = (rw hk (omega arith), key-decides ∙ rw (hj, hk)) }
 
-    pub key-for-missing : {q : code.Place} → j ≡ At q → k ≡ NoKey → Candidates x.deck (span_of k) (has_key x key n (key_is x.deck k) b) Skip
+    pub key-for-missing : {q : code.Place} → j ≡ Some q → k ≡ None → Candidates x.deck (span_of k) (has_key x key n (key_is x.deck k) b) None
     unfolding same_key
     key-for-missing hj hk = record { is = key-decides ∙ rw (hj, hk) }
 
-    pub missing-for-key : {p : code.Place} → j ≡ NoKey → k ≡ At p → Candidates x.deck (span_of k) (has_key x key n (key_is x.deck k) b) Skip
+    pub missing-for-key : {p : code.Place} → j ≡ None → k ≡ Some p → Candidates x.deck (span_of k) (has_key x key n (key_is x.deck k) b) None
     unfolding same_key
     missing-for-key hj hk = record { is = key-decides ∙ rw (hj, hk) }
 
-    module _ {q p : code.Place} (hj : j ≡ At q) (hk : k ≡ At p) where
+    module _ {q p : code.Place} (hj : j ≡ Some q) (hk : k ≡ Some p) where
       bytes-decide : has_key x key n (key_is x.deck k) b ≡ same_list (bytes_at x.deck (place_of q)) (bytes_at x.deck (place_of p))
       unfolding same_key
       bytes-decide = key-decides ∙ rw (hj, hk)
@@ -59,13 +56,13 @@ module _ (x : Fixed) (key : Element → Option (List ℕ)) (n : ℕ) (k : Key) (
       found_in_lem : place_in x.deck q
       found_in_lem = subst (KeyIn x.deck) hj f.within
 
-      pub sizes-equal : q.size ≡ p.size → Candidates x.deck (span_of k) (has_key x key n (key_is x.deck k) b) (From q.start)
+      pub sizes-equal : q.size ≡ p.size → Candidates x.deck (span_of k) (has_key x key n (key_is x.deck k) b) (Some q.start)
       unfolding bytes_at
       sizes-equal h =
           let z = found_in_lem in
           record { is = (rw hk (omega arith), bytes-decide ∙ rw (hk, h)) }
 
-      pub sizes-unequal : (q.size ≡ p.size → ⊥) → KeyIn x.deck k → Candidates x.deck (span_of k) (has_key x key n (key_is x.deck k) b) Skip
+      pub sizes-unequal : (q.size ≡ p.size → ⊥) → KeyIn x.deck k → Candidates x.deck (span_of k) (has_key x key n (key_is x.deck k) b) None
       sizes-unequal h l =
           record { is = bytes-decide ∙ sizes-differ x.deck (place_of q) (place_of p) found_in_lem (subst (KeyIn x.deck) hk l) h }
 
@@ -110,10 +107,10 @@ compared-more {deck} {a} {b} {n} {j} f h e =
     record { first = f.first; second = f.second; left = f.left ∙ bytes-more deck a b n j h f.first f.second e }
 
 module _ {deck : List ℕ} {p : Place} {t : Bool} {r : Candidate} (c : Candidates deck p t r) where
-  pub skipped : r ≡ Skip → t ≡ false
+  pub skipped : r ≡ None → t ≡ false
   skipped k = subst (CandidateIs deck p t) k c.is
 
-  module _ {s : ℕ} (k : r ≡ From s) {q : code.Place} (e : place_of q ≡ p) where
+  module _ {s : ℕ} (k : r ≡ Some s) {q : code.Place} (e : place_of q ≡ p) where
     test-is : t ≡ same_list (take q.size (drop s deck)) (take q.size (drop q.start deck))
     test-is = (subst (CandidateIs deck p t) k c.is).1 ∙ ap (λ (w : Place). same_list (take w.size (drop s deck)) (take w.size (drop w.start deck))) (sym e)
 

@@ -17,9 +17,8 @@ use Rattle.merge_rules.specs.Log.{restrict, extend, first_place_of, rollback_mer
 use Rattle.merge_rules.specs.Pairing.{identifiable, definition_child, Pair}
 use Rattle.merge_rules.specs.Range.{places, calc_element_insert_range}
 use Rattle.merge_rules.specs.Refusals.{done, conflict, refused, unmergeable}
-use Rattle.pairing.specs.Keys.{FindsChild}
-use Rattle.pairing.specs.declared.keys.Child.{Child}
-use Rattle.pairing.specs.declared.keys.Child.TheVariants.{Of, Missing as NoChild}
+use Rattle.std.specs.Prelude.{Some, None, is_some}
+use Rattle.pairing.specs.Keys.{Child, FindsChild}
 use Rattle.pairing.proofs.Laws.Keys.{child-at, child-missing}
 use Rattle.merge_log.specs.Answers.{outcome_is}
 use Rattle.merge_log.specs.Places.{FirstPlace, place_is}
@@ -63,14 +62,10 @@ module _ (x : Fixed) (m : Model) (a : Element) {i : Bool} (named : i ≡ identif
   unfolding keyed
   keyed-named k = sym (rw (keyed, ← named, k))
 
-  module _ (unnamed : i ≡ false) {n : ℕ} {r : Child} (f : FindsChild n r (definition_child x m a)) where
-    pub keyed-defined : {c : numbers.Element} → r ≡ Of c → true ≡ keyed x m a
-    unfolding keyed
-    keyed-defined k = sym (rw (keyed, ← named, unnamed, child-at f k))
-
-    pub keyed-not : r ≡ NoChild → false ≡ keyed x m a
-    unfolding keyed
-    keyed-not k = sym (rw (keyed, ← named, unnamed, child-missing f k))
+  pub keyed-unnamed : i ≡ false → {n : ℕ} (r : Child) → FindsChild n r (definition_child x m a) → is_some r ≡ keyed x m a
+  unfolding keyed
+  keyed-unnamed k (Some c) f = sym (rw (keyed, ← named, k, child-at f refl))
+  keyed-unnamed k None f = sym (rw (keyed, ← named, k, child-missing f refl))
 
 -- ---- the place behind A
 

@@ -8,16 +8,16 @@ use Rattle.pairing.proofs.action.calc_element_merge.Goals as goal
 pub sibling-found-requires : goal.sibling-found-requires
 sibling-found-requires c = record { good_fixed = c.requires.good_fixed; model_over = c.requires.model_over; listed = c.requires.listed; key_marks = c.requires.key_marks; a_in_bounds = c.requires.a_in_bounds; keys = c.key_of-key.ensures }
 
-pub returns-in-Of : goal.returns-in-Of
-returns-in-Of c =
+pub returns-in-Some : goal.returns-in-Some
+returns-in-Some c =
     let n = length (elements_of c.args.elements.now).names in
     let x = fixed_in c.args.deck.now c.args.schema.now c.args.elements.now in
     let m = model_of c.args.model.now in
-    λ b d. defined-sibling n x m c.args.second.now c.args.a.0 b d c.sibling-found.ensures c.in-Of.is
+    λ b d. defined-sibling n x m c.args.second.now c.args.a.0 b d c.sibling-found.ensures c.in-Some.is
 
-pub returns-in-Missing : goal.returns-in-Missing
-returns-in-Missing c =
+pub returns-in-None : goal.returns-in-None
+returns-in-None c =
     let n = length (elements_of c.args.elements.now).names in
     let x = fixed_in c.args.deck.now c.args.schema.now c.args.elements.now in
     let m = model_of c.args.model.now in
-    λ b d. defined-none n x m c.args.second.now c.args.a.0 b d c.sibling-found.ensures c.in-Missing.is
+    λ b d. defined-none n x m c.args.second.now c.args.a.0 b d c.sibling-found.ensures c.in-None.is

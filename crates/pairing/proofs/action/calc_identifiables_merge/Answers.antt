@@ -13,18 +13,18 @@ returns-then-splittable c =
     let n = length (elements_of c.args.elements.now).names in
     let x = fixed_in c.args.deck.now c.args.schema.now c.args.elements.now in
     let m = model_of c.args.model.now in
-    λ b d. named-split n x m c.args.splittable c.args.second.now c.args.a.0 b d c.sibling-found.ensures c.in-Missing.is c.if-splittable.true
+    λ b d. named-split n x m c.args.splittable c.args.second.now c.args.a.0 b d c.sibling-found.ensures c.in-None.is c.if-splittable.true
 
-pub returns-in-Of : goal.returns-in-Of
-returns-in-Of c =
+pub returns-in-Some : goal.returns-in-Some
+returns-in-Some c =
     let n = length (elements_of c.args.elements.now).names in
     let x = fixed_in c.args.deck.now c.args.schema.now c.args.elements.now in
     let m = model_of c.args.model.now in
-    λ b d. named-sibling n x m c.args.splittable c.args.second.now c.args.a.0 b d c.sibling-found.ensures c.in-Of.is
+    λ b d. named-sibling n x m c.args.splittable c.args.second.now c.args.a.0 b d c.sibling-found.ensures c.in-Some.is
 
 pub returns-else-splittable : goal.returns-else-splittable
 returns-else-splittable c =
     let n = length (elements_of c.args.elements.now).names in
     let x = fixed_in c.args.deck.now c.args.schema.now c.args.elements.now in
     let m = model_of c.args.model.now in
-    λ b d. named-unmergeable n x m c.args.splittable c.args.second.now c.args.a.0 b d c.sibling-found.ensures c.in-Missing.is c.if-splittable.false
+    λ b d. named-unmergeable n x m c.args.splittable c.args.second.now c.args.a.0 b d c.sibling-found.ensures c.in-None.is c.if-splittable.false

@@ -17,25 +17,25 @@ loop-i-preserved-in_default c =
     let x = fixed_in c.args.deck.now c.args.schema.now c.args.elements.now in
     let m = model_of c.args.model.now in
     let n = length (elements_of c.args.elements.now).names in
-    definition-text x m c.args.e.0 n c.loop-i.i c.loop-i.invariant (search rules) c.item_at-a.ensures c.in_default.is
+    definition-text x m c.args.e.0 n c.loop-i.i c.loop-i.invariant (search rules) c.item_at.ensures c.in_default.is
 
 pub element_name-n-requires : goal.element_name-n-requires
-element_name-n-requires c = record { good_elements = c.requires.good_fixed.elements_good; e_in_bounds = child-in c.requires.model_over c.args.e.0 c.loop-i.i (search rules) c.item_at-a.ensures c.in-Child.is }
+element_name-n-requires c = record { good_elements = c.requires.good_fixed.elements_good; e_in_bounds = child-in c.requires.model_over c.args.e.0 c.loop-i.i (search rules) c.item_at.ensures c.in-Child.is }
 
 pub returns-then-n-eq-DEFINITION_REF : goal.returns-then-n-eq-DEFINITION_REF
 returns-then-n-eq-DEFINITION_REF c =
     let x = fixed_in c.args.deck.now c.args.schema.now c.args.elements.now in
     let m = model_of c.args.model.now in
     let n = length (elements_of c.args.elements.now).names in
-    let h = child-in c.requires.model_over c.args.e.0 c.loop-i.i (search rules) c.item_at-a.ensures c.in-Child.is in
-    definition-is x m c.args.e.0 n c.loop-i.i c.loop-i.invariant (search rules) c.item_at-a.ensures c.in-Child.is c.element_name-n.ensures c.if-n-eq-DEFINITION_REF.true h
+    let h = child-in c.requires.model_over c.args.e.0 c.loop-i.i (search rules) c.item_at.ensures c.in-Child.is in
+    definition-is x m c.args.e.0 n c.loop-i.i c.loop-i.invariant (search rules) c.item_at.ensures c.in-Child.is c.element_name-n.ensures c.if-n-eq-DEFINITION_REF.true h
 
 pub loop-i-preserved : goal.loop-i-preserved
 loop-i-preserved c =
     let x = fixed_in c.args.deck.now c.args.schema.now c.args.elements.now in
     let m = model_of c.args.model.now in
     let n = length (elements_of c.args.elements.now).names in
-    definition-other x m c.args.e.0 n c.loop-i.i c.loop-i.invariant (search rules) c.item_at-a.ensures c.in-Child.is c.element_name-n.ensures c.if-n-eq-DEFINITION_REF.false
+    definition-other x m c.args.e.0 n c.loop-i.i c.loop-i.invariant (search rules) c.item_at.ensures c.in-Child.is c.element_name-n.ensures c.if-n-eq-DEFINITION_REF.false
 
 pub returns : goal.returns
 returns c =

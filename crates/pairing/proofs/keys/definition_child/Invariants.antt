@@ -12,6 +12,3 @@ use Rattle.pairing.proofs.keys.definition_child.Given as goal
 abbrev pub invariant-loop-i : goal.invariant-loop-i
 invariant-loop-i l =
     first_of (is_definition (fixed_in l.deck l.schema l.elements)) (children (drop l.i (list_of (model_of l.model) l.e.0))) ≡ definition_child (fixed_in l.deck l.schema l.elements) (model_of l.model) l.e.0
-
-abbrev pub decreases-loop-i : goal.decreases-loop-i
-decreases-loop-i l = l.count - l.i

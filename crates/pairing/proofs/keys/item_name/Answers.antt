@@ -1,19 +1,16 @@
 use Rattle.tables.specs.ModelTable.{model_of}
 use Rattle.state_test.specs.StateTest.{fixed_in}
-use Rattle.pairing.proofs.Laws.Keys.{child-within, name-missing, name-found}
+use Rattle.pairing.proofs.Laws.Keys.{name-missing, name-found}
 use Rattle.pairing.proofs.keys.item_name.Goals as goal
 
-pub returns-in_default : goal.returns-in_default
-returns-in_default c =
+pub returns-in_err-c : goal.returns-in_err-c
+returns-in_err-c c =
     let x = fixed_in c.args.deck.now c.args.schema.now c.args.elements.now in
     let m = model_of c.args.model.now in
-    name-missing x m c.args.e.0 c.identifier.ensures c.in_default.is
-
-pub sole_string-requires : goal.sole_string-requires
-sole_string-requires c = record { good_fixed = c.requires.good_fixed; model_over = c.requires.model_over; e_in_bounds = child-within c.identifier.ensures c.in-Of.is }
+    rw c.from_residual.ensures (name-missing x m c.args.e.0 c.identifier.ensures c.in_err-c.was)
 
 pub returns : goal.returns
 returns c =
     let x = fixed_in c.args.deck.now c.args.schema.now c.args.elements.now in
     let m = model_of c.args.model.now in
-    name-found x m c.args.e.0 c.identifier.ensures c.in-Of.is c.sole_string.ensures
+    name-found x m c.args.e.0 c.identifier.ensures c.in_ok-c.was c.sole_string.ensures

@@ -1,22 +1,18 @@
 use Rattle.merge_rules.specs.Pairing.{same_key}
 use Rattle.pairing.proofs.sibling.same_key.Goals as goal
 
-pub same_string-requires : goal.same_string-requires
-same_string-requires c =
-    (rw c.in-At.is at c.requires.key_in, rw c.in-At-b.is at c.requires.key_in_2)
-
-pub returns-in-At-b : goal.returns-in-At-b
+pub returns-in-Some-Some : goal.returns-in-Some-Some
 unfolding same_key
-returns-in-At-b c = rw (c.in-At.is, c.in-At-b.is) c.same_string.ensures
+returns-in-Some-Some c = rw (c.in-Some-Some.is-0, c.in-Some-Some.is-1) c.same_string.ensures
 
-pub returns-in-Missing-b : goal.returns-in-Missing-b
+pub returns-in-None-None : goal.returns-in-None-None
 unfolding same_key
-returns-in-Missing-b c = rw (c.in-At.is, c.in-Missing-b.is)
+returns-in-None-None c = rw (c.in-None-None.is-0, c.in-None-None.is-1)
 
-pub returns-in-At-b-2 : goal.returns-in-At-b-2
+pub returns-in_default : goal.returns-in_default
 unfolding same_key
-returns-in-At-b-2 c = rw (c.in-Missing.is, c.in-At-b-2.is)
+returns-in_default c = rw (c.in_default.is-0, c.in_default.is-1)
 
-pub returns-in-Missing-b-2 : goal.returns-in-Missing-b-2
+pub returns-in_default-2 : goal.returns-in_default-2
 unfolding same_key
-returns-in-Missing-b-2 c = rw (c.in-Missing.is, c.in-Missing-b-2.is)
+returns-in_default-2 c = rw (c.in_default.is-0, c.in_default.is-1)

@@ -7,8 +7,7 @@ use lib.ListN.{drop}
 use Rattle.tables.specs.Lists.{first_of}
 use Rattle.tables.specs.ModelTable.{model_of}
 use Rattle.state_test.specs.StateTest.{fixed_in}
-use Rattle.pairing.specs.declared.keys.Key.{Key}
-use Rattle.pairing.specs.Keys.{key_is, key_by, has_key}
+use Rattle.pairing.specs.Keys.{Key, key_is, key_by, has_key}
 use Rattle.pairing.proofs.Laws.Marks.{marks-past}
 use Rattle.pairing.proofs.Laws.Siblings.{span_fits, siblings-end, siblings-next, siblings-found, sibling-is, skipped, compared-more, compared-start, bytes-unequal, bytes-equal}
 use borrow.Author.Rules.{rules}
@@ -41,13 +40,13 @@ siblings-preserved-in_default c = let passed_0 : let t = fits c.args.deck.now c.
 
 pub loop-j-init : goal.loop-j-init
 loop-j-init c =
-    compared-start c.candidate_at.ensures c.in-From.is c.span_of-span.ensures (span_fits c.args.deck.now c.args.key c.requires.keys.within c.span_of-span.ensures)
+    compared-start c.candidate_at.ensures c.in-Some.is c.span_of-span.ensures (span_fits c.args.deck.now c.args.key c.requires.keys.within c.span_of-span.ensures)
 
 pub siblings-preserved : goal.siblings-preserved
 siblings-preserved c = let passed_0 : let t = fits c.args.deck.now c.args.schema.now c.args.elements.now c.args.model.now c.args.by_name c.element_name-n.result.0 c.args.key in
     first_of t (drop c.next_marked-at.result c.args.second.now) ≡ first_of t c.args.second.now = let x = fixed_in c.args.deck.now c.args.schema.now c.args.elements.now in
     marks-past x (key_by c.args.by_name x (model_of c.args.model.now)) c.element_name-n.result.0 (key_is c.args.deck.now c.args.key) c.args.second.now c.args.marks.now c.requires.key_marks c.key_mark-mark.ensures c.next_marked-at.ensures.no_mark c.siblings.invariant.1 in
-    (search rules, siblings-next _ _ _ passed_0 c.if-second-at.false (bytes-unequal c.candidate_at.ensures c.in-From.is c.span_of-span.ensures c.loop-j.invariant c.loop-j-test.true c.if-deck-s.true))
+    (search rules, siblings-next _ _ _ passed_0 c.if-second-at.false (bytes-unequal c.candidate_at.ensures c.in-Some.is c.span_of-span.ensures c.loop-j.invariant c.loop-j-test.true c.if-deck-s.true))
 
 pub loop-j-preserved : goal.loop-j-preserved
 loop-j-preserved c = compared-more c.loop-j.invariant c.loop-j-test.true c.if-deck-s.false
@@ -66,5 +65,5 @@ returns-after-loop-j c = let passed_0 : let t = fits c.args.deck.now c.args.sche
     marks-past x (key_by c.args.by_name x (model_of c.args.model.now)) c.element_name-n.result.0 (key_is c.args.deck.now c.args.key) c.args.second.now c.args.marks.now c.requires.key_marks c.key_mark-mark.ensures c.next_marked-at.ensures.no_mark c.siblings.invariant.1 in
     let x = fixed_in c.args.deck.now c.args.schema.now c.args.elements.now in
     let m = model_of c.args.model.now in
-    let e = bytes-equal c.candidate_at.ensures c.in-From.is c.span_of-span.ensures c.loop-j.invariant c.loop-j-test.false in
+    let e = bytes-equal c.candidate_at.ensures c.in-Some.is c.span_of-span.ensures c.loop-j.invariant c.loop-j-test.false in
     record { is = siblings-found _ _ _ passed_0 c.if-second-at.false e ∙ sibling-is x (key_by c.args.by_name x m) c.args.second.now c.args.a.0 c.element_name-n.ensures c.requires.keys.is; within = c.requires.listed c.next_marked-at.result c.if-second-at.false }

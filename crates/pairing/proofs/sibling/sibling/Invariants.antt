@@ -6,8 +6,7 @@ use lib.ListN.{length, drop}
 use Rattle.tables.specs.Lists.{first_of}
 use Rattle.tables.specs.ModelTable.{model_of}
 use Rattle.state_test.specs.StateTest.{fixed_in}
-use Rattle.pairing.specs.declared.keys.Key.{Key}
-use Rattle.pairing.specs.Keys.{key_is, key_by, has_key}
+use Rattle.pairing.specs.Keys.{Key, key_is, key_by, has_key}
 use Rattle.pairing.proofs.Laws.Siblings.{Compared}
 use Rattle.pairing.proofs.sibling.sibling.Given as goal
 
@@ -18,9 +17,6 @@ fits deck schema elements model by_name n key =
 
 abbrev pub invariant-loop-j : goal.invariant-loop-j
 invariant-loop-j l = Compared l.deck l.s l.start l.size l.j
-
-abbrev pub decreases-loop-j : goal.decreases-loop-j
-decreases-loop-j l = l.size - l.j
 
 abbrev pub invariant-siblings : goal.invariant-siblings
 invariant-siblings l =

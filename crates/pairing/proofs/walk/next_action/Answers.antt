@@ -23,8 +23,8 @@ cursor_action-decision-requires c = record { good_fixed = c.requires.good_fixed;
 pub search_children-act-requires : goal.search_children-act-requires
 search_children-act-requires c = record { good_fixed = c.requires.good_fixed; model_over = c.requires.model_over; listed = c.requires.ranged.second; mark_room = record { order = omega (arith, c.requires.work_room.second); within = c.requires.work_room.within }; marked_if = c.requires.marked_if; a_in_bounds = c.requires.ranged.rows.element c.args.c.a (omega (arith, c.requires.a_lt_rows)) }
 
-pub returns-in-Act : goal.returns-in-Act
-returns-in-Act c = record { acts = rw (next-at c.args.s c.args.work.now c.args.c.a c.args.c.b c.args.c.new c.requires.work_room _ c.requires.a_lt_rows c.if-s-at.false) (decided c.cursor_action-decision.ensures c.in-Act.is c.args.splittable (second_children c.args.s c.args.work.now)); marked_if_2 = c.requires.marked_if; work_unchanged = refl }
+pub returns-in-Some : goal.returns-in-Some
+returns-in-Some c = record { acts = rw (next-at c.args.s c.args.work.now c.args.c.a c.args.c.b c.args.c.new c.requires.work_room _ c.requires.a_lt_rows c.if-s-at.false) (decided c.cursor_action-decision.ensures c.in-Some.is c.args.splittable (second_children c.args.s c.args.work.now)); marked_if_2 = c.requires.marked_if; work_unchanged = refl }
 
-pub returns-in-Search : goal.returns-in-Search
-returns-in-Search c = record { acts = rw (next-at c.args.s c.args.work.now c.args.c.a c.args.c.b c.args.c.new c.requires.work_room _ c.requires.a_lt_rows c.if-s-at.false) (c.search_children-act.ensures.searches _ _ (sought c.cursor_action-decision.ensures c.in-Search.is)); marked_if_2 = (λ e. c.search_children-act.ensures.marked); work_unchanged = c.search_children-act.ensures.work_unchanged }
+pub returns-in-None : goal.returns-in-None
+returns-in-None c = record { acts = rw (next-at c.args.s c.args.work.now c.args.c.a c.args.c.b c.args.c.new c.requires.work_room _ c.requires.a_lt_rows c.if-s-at.false) (c.search_children-act.ensures.searches _ _ (sought c.cursor_action-decision.ensures c.in-None.is)); marked_if_2 = (λ e. c.search_children-act.ensures.marked); work_unchanged = c.search_children-act.ensures.work_unchanged }
