@@ -19,11 +19,8 @@ pub fn copy_children(model: &[u64], e: Element, part: &mut [u16]) -> usize
 {
     let n = list_length(model, e);
     let mut k: usize = 0;
-    let mut i: usize = 0;
-    while i < n {
-        let a = item_at(model, e, i);
-        i += 1;
-        let Item::Child(x) = a else {
+    for i in 0..n {
+        let Item::Child(x) = item_at(model, e, i) else {
             continue;
         };
         let number = x.0;
@@ -42,11 +39,8 @@ pub fn copy_rows(model: &[u64], e: Element, work: &mut [u16]) -> usize
 {
     let n = list_length(model, e);
     let mut k: usize = 0;
-    let mut i: usize = 0;
-    while i < n {
-        let a = item_at(model, e, i);
-        i += 1;
-        let Item::Child(x) = a else {
+    for i in 0..n {
+        let Item::Child(x) = item_at(model, e, i) else {
             continue;
         };
         let number = x.0;

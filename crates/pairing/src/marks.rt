@@ -21,13 +21,10 @@ pub fn key_mark(deck: &[u8], key: Option<Place>) -> u16
     ensures { result ≡ key_mark (key_is deck.now key) }
 {
     let span = span_of(key);
-    let start = span.start;
-    let size = span.size;
+    let bytes = &deck[span.start..span.start + span.size];
     let mut h: u64 = 0;
-    let mut j: usize = 0;
-    while j < size {
-        h = (h * 33 + deck[start + j] as u64) % 65536;
-        j += 1;
+    for b in bytes {
+        h = (h * 33 + *b as u64) % 65536;
     }
     h as u16
 }
@@ -51,13 +48,11 @@ fn mark_keys(
 {
     let start = s.start;
     let n = s.end - start;
-    let mut k: usize = 0;
-    while k < n {
+    for k in 0..n {
         let b = Element(work[start + k] as usize);
         let key = key_of(deck, schema, elements, model, by_name, b);
         let at = to + k;
         work[at] = key_mark(deck, key);
-        k += 1;
     }
 }
 
@@ -88,10 +83,8 @@ fn any_marked(marks: &[u16], mark: u16) -> bool
     ensures { result ≡ false → NoMark marks.now mark 0 (length marks.now) }
 {
     let mut found = false;
-    let mut j: usize = 0;
-    while j < marks.len() {
-        found = found | (marks[j] == mark);
-        j += 1;
+    for m in marks {
+        found = found | (*m == mark);
     }
     found
 }
@@ -118,12 +111,10 @@ pub fn next_marked(marks: &[u16], from: usize, mark: u16) -> usize
     ensures no_mark { NoMark marks.now mark from result }
     ensures result_value { result < length marks.now → get_or marks.now result 0 ≡ mark }
 {
-    let mut k = skip_marks(marks, from, mark);
-    while k < marks.len() {
+    for k in skip_marks(marks, from, mark)..marks.len() {
         if marks[k] == mark {
             return k;
         }
-        k += 1;
     }
-    k
+    marks.len()
 }

@@ -166,11 +166,9 @@ pub fn import_rest(
 {
     let a = c.a;
     let n = s.end - s.start;
-    let mut b = c.b;
     let mut new = c.new;
-    while b < n {
+    for b in c.b..n {
         new = import_next(work, uses, s, Cursors { a, b, new }, position);
-        b += 1;
     }
     new
 }
@@ -182,15 +180,11 @@ pub fn used_twice(work: &[u16], uses: &[u8], s: Sides, new: usize) -> Result<Row
     ensures work_value { planned_is result work.now ≡ or_used_twice (plan_in s.rows new work.now) (first_used_twice (plan_in s.rows new work.now) (second_children s work.now)) }
     ensures by_index { (n : ℕ) → RowsIn n work.now s.rows new → PlanIn n result work.now }
 {
-    let n = s.end - s.start;
-    let mut j: usize = 0;
-    while j < n {
-        let at = s.start + j;
-        let e = work[at] as usize;
+    for b in &work[s.start..s.end] {
+        let e = *b as usize;
         if uses[e] % 2 == 1 {
             return Err(Unplanned::UsedTwice(Element(e)));
         }
-        j += 1;
     }
     Ok(Rows { first: s.rows, new })
 }

@@ -89,24 +89,19 @@ module _ {marks : List ℕ} {mark : ℕ} where
   none_more true f h e = absurd (true≢false e)
   none_more false {k} f h e = no-mark-more (f refl) h (eqb-false (get_or marks k 0) mark e)
 
-  pub none_end : {k : ℕ} → length marks ≤ k → NoMark marks mark 0 k → NoMark marks mark 0 (length marks)
-  none_end {k} h f = let e : k ≡ length marks = omega (arith, f.within) in rw (← e) f
+  pub none_end : {from k : ℕ} → length marks ≤ k → NoMark marks mark from k → NoMark marks mark from (length marks)
+  none_end {from} {k} h f = let e : k ≡ length marks = omega (arith, f.within) in rw (← e) f
 
 -- ---- the mark of a key, byte by byte
 
-module _ (deck : List ℕ) (start size : ℕ) (fits : start + size ≤ length deck) where
-  abbrev span : List ℕ
-  span = take size (drop start deck)
-
-  pub mark-more : (h j : ℕ) → j < size → mark_of h (drop j span) ≡ mark_of ((h * 33 + get_or deck (start + j) 0) % 65536) (drop (j + 1) span)
+module _ (bytes : List ℕ) where
+  pub mark-more : (h j : ℕ) → j < length bytes → mark_of h (drop j bytes) ≡ mark_of ((h * 33 + get_or bytes j 0) % 65536) (drop (j + 1) bytes)
   unfolding mark_of
-  mark-more h j l =
-      let n = length_part deck start size fits in
-      rw (add-one j, drop-cons span j 0 (omega arith), get_d_part deck start size j l, mark_of)
+  mark-more h j l = rw (add-one j, drop-cons bytes j 0 l, mark_of)
 
-  pub mark-end : (h j : ℕ) → size ≤ j → mark_of h (drop j span) ≡ h
+  pub mark-end : (h j : ℕ) → length bytes ≤ j → mark_of h (drop j bytes) ≡ h
   unfolding mark_of
-  mark-end h j l = rw (drop_of_length-le span {i = j} (omega (arith, length_part deck start size fits)))
+  mark-end h j l = rw (drop_of_length-le bytes {i = j} l)
 
 span-whole : (deck : List ℕ) (k : Key) → mark_of 0 (take (span_of k).size (drop (span_of k).start deck)) ≡ key_mark (key_is deck k)
 unfolding mark_of key_mark bytes_at

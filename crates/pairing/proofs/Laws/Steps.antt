@@ -2,8 +2,8 @@
 use mathlib.Core.Bool.{Bool}
 use mathlib.Core.List.{List}
 use mathlib.Core.Option.{Option, none, some}
-use mathlib.Core.Path.{◌≡◌, sym, ap, ◌∙◌}
-use Prim.Native.Nat.{ℕ, ◌+◌, ◌-◌, ◌*◌, ◌≤◌, ◌<◌}
+use mathlib.Core.Path.{◌≡◌, sym, ◌∙◌}
+use Prim.Native.Nat.{ℕ, ◌+◌, ◌≤◌, ◌<◌}
 use native.Mathlib.Omega.{arith}
 use borrow.Author.Tests.{lt-ltb, le-ltb}
 use lib.Dec.{ltb}
@@ -83,29 +83,23 @@ child-ranged n s w i j k m room r h =
     let l : m < length (second_children s w) = omega (arith, length-second s w room.within) in
     omega (arith, r.second m l, get_d-second s w room.within m h)
 
-module _ (s : Sides) (w : List ℕ) (p : Plan) (j : ℕ) (ends : s.end + 2 * (s.end - s.start) ≤ length w) where
+module _ (bs : List Element) (p : Plan) (j : ℕ) where
   abbrev twice : Element → Bool
   twice b = ltb 1 (uses p b)
 
-  pub twice-more : s.start + j < s.end → uses p (get_or w (s.start + j) 0) ≤ 1 → (r : Option Element) → first_of twice (drop j (second_children s w)) ≡ r
-      → first_of twice (drop (j + 1) (second_children s w)) ≡ r
-  twice-more h few r e =
-      let n = length-second s w ends in
-      first_more twice (second_children s w) j 0 (omega arith) (ap twice (get_d-second s w ends j h) ∙ le-ltb 1 (uses p (get_or w (s.start + j) 0)) few) ∙ e
+  pub twice-more : j < length bs → uses p (get_or bs j 0) ≤ 1 → (r : Option Element) → first_of twice (drop j bs) ≡ r → first_of twice (drop (j + 1) bs) ≡ r
+  twice-more h few r e = first_more twice bs j 0 h (le-ltb 1 (uses p (get_or bs j 0)) few) ∙ e
 
-  pub twice-stop : s.start + j < s.end → 1 < uses p (get_or w (s.start + j) 0) → (r : Option Element) → first_of twice (drop j (second_children s w)) ≡ r
-      → child_used_twice (get_or w (s.start + j) 0) ≡ or_used_twice p r
+  pub twice-stop : j < length bs → 1 < uses p (get_or bs j 0) → (r : Option Element) → first_of twice (drop j bs) ≡ r
+      → child_used_twice (get_or bs j 0) ≡ or_used_twice p r
   unfolding or_used_twice
   twice-stop h many r e =
-      let n = length-second s w ends in
-      let g = get_d-second s w ends j h in
-      let f = first-stop twice (second_children s w) j 0 (omega arith) (ap twice g ∙ lt-ltb 1 (uses p (get_or w (s.start + j) 0)) many) in
-      let k : some (get_or w (s.start + j) 0) ≡ r = ap {B = Option Element} some (sym g) ∙ sym f ∙ e in
+      let f = first-stop twice bs j 0 h (lt-ltb 1 (uses p (get_or bs j 0)) many) in
+      let k : some (get_or bs j 0) ≡ r = sym f ∙ e in
       rw (← k)
 
-  pub twice-end : s.end ≤ s.start + j → (r : Option Element) → first_of twice (drop j (second_children s w)) ≡ r → level_plan p ≡ or_used_twice p r
+  pub twice-end : length bs ≤ j → (r : Option Element) → first_of twice (drop j bs) ≡ r → level_plan p ≡ or_used_twice p r
   unfolding or_used_twice
   twice-end h r e =
-      let n = length-second s w ends in
-      let k : none ≡ r = sym (first-end twice (second_children s w) j (omega arith)) ∙ e in
+      let k : none ≡ r = sym (first-end twice bs j h) ∙ e in
       rw (← k)

@@ -1,5 +1,5 @@
 use mathlib.Core.Path.{◌≡◌}
-use Prim.Native.Nat.{◌-◌, ◌≤◌}
+use Prim.Native.Nat.{◌≤◌}
 use lib.ListN.{length, take}
 use Rattle.tables.specs.Records.{list_of}
 use Rattle.tables.specs.ModelTable.{model_of}
@@ -10,6 +10,3 @@ use Rattle.pairing.proofs.children.copy_children.Given as goal
 abbrev pub invariant-loop-i : goal.invariant-loop-i
 invariant-loop-i l =
     (l.k ≤ l.i) × (length l.part ≡ length l.initial.part) × Copied l.part l.k (children (take l.i (list_of (model_of l.model) l.e.0)))
-
-abbrev pub decreases-loop-i : goal.decreases-loop-i
-decreases-loop-i l = l.n - l.i

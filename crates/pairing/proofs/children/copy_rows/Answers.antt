@@ -16,13 +16,13 @@ loop-i-preserved-in_default c =
     let h = c.loop-i-test.true in (
       omega (arith, c.loop-i.invariant.0),
       c.loop-i.invariant.1,
-      rw (children-text (list_of (model_of c.args.model.now) c.args.e.0) c.loop-i.i c.item_at-a.result (omega (arith, h, c.list_length-n.ensures)) c.item_at-a.ensures _ c.in_default.is) c.loop-i.invariant.2,
+      rw (children-text (list_of (model_of c.args.model.now) c.args.e.0) c.loop-i.i c.item_at.result (omega (arith, h, c.list_length-n.ensures)) c.item_at.ensures _ c.in_default.is) c.loop-i.invariant.2,
     )
 
 pub overflow_cast-work : goal.overflow_cast-work
 overflow_cast-work c =
     let h : c.loop-i.i < length (list_of (model_of c.args.model.now) c.args.e.0) = omega (arith, c.loop-i-test.true, c.list_length-n.ensures) in
-    omega (arith, item-small c.args.model.now c.requires.good_model c.args.e.0 c.loop-i.i c.item_at-a.result h c.item_at-a.ensures c.in-Child.x c.in-Child.is)
+    omega (arith, item-small c.args.model.now c.requires.good_model c.args.e.0 c.loop-i.i c.item_at.result h c.item_at.ensures c.in-Child.x c.in-Child.is)
 
 pub bounds-work-mate : goal.bounds-work-mate
 bounds-work-mate c = simp length-set (omega (arith, c.loop-i.invariant.0, c.loop-i.invariant.1, c.loop-i-test.true, c.list_length-n.ensures, c.requires.e_in_bounds))
@@ -32,7 +32,7 @@ loop-i-preserved c =
     let h : c.loop-i.i < length (list_of (model_of c.args.model.now) c.args.e.0) = omega (arith, c.loop-i-test.true, c.list_length-n.ensures) in (
       omega (arith, c.loop-i.invariant.0),
       simp length-set c.loop-i.invariant.1,
-      rw (children-child (list_of (model_of c.args.model.now) c.args.e.0) c.loop-i.i c.item_at-a.result h c.item_at-a.ensures c.in-Child.x c.in-Child.is)
+      rw (children-child (list_of (model_of c.args.model.now) c.args.e.0) c.loop-i.i c.item_at.result h c.item_at.ensures c.in-Child.x c.in-Child.is)
           (rows_more c.loop-i.work c.loop-i.k c.in-Child.x.0 (children (take c.loop-i.i (list_of (model_of c.args.model.now) c.args.e.0))) (omega (arith, h, c.loop-i.invariant.0, c.loop-i.invariant.1, c.requires.e_in_bounds)) c.loop-i.invariant.2),
     )
 

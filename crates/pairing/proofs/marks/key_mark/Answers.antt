@@ -1,28 +1,19 @@
-use mathlib.Core.Path.{refl, sym, ◌∙◌}
-use Prim.Native.Nat.{◌+◌}
+use mathlib.Core.Path.{◌≡◌, sym, ◌∙◌}
+use Prim.Native.Nat.{◌+◌, ◌-◌}
 use native.Mathlib.Omega.{arith}
 use Rattle.pairing.proofs.Laws.Marks.{mark-more, mark-end, span-mark}
-use Rattle.pairing.proofs.Laws.Siblings.{span_fits}
+use lib.ListN.{take, drop}
 use Rattle.pairing.proofs.marks.key_mark.Goals as goal
 
-pub loop-j-init : goal.loop-j-init
-loop-j-init c =
-    (omega arith, span_fits c.args.deck.now c.args.key c.requires c.span_of-span.ensures, refl)
-
-pub overflow_cast-h : goal.overflow_cast-h
-overflow_cast-h c =
-    omega (arith, c.shared_slice_known-in-loop-j-1.given (c.span_of-span.result.start + c.loop-j.j))
-
-pub overflow_add-h-in-loop-j : goal.overflow_add-h-in-loop-j
-overflow_add-h-in-loop-j c =
-    record { fits = omega (arith, c.loop-j.invariant.0, c.shared_slice_known-in-loop-j-1.given (c.span_of-span.result.start + c.loop-j.j)) }
-
-pub loop-j-preserved : goal.loop-j-preserved
-loop-j-preserved c =
+pub loop-b-preserved : goal.loop-b-preserved
+loop-b-preserved c =
     let p = c.span_of-span.result in
-    (omega arith, c.loop-j.invariant.1, sym (mark-more c.args.deck.now p.start p.size c.loop-j.invariant.1 c.loop-j.h c.loop-j.j c.loop-j-test.true) ∙ c.loop-j.invariant.2)
+    let bytes = take (p.start + p.size - p.start) (drop p.start c.args.deck.now) in
+    (omega arith, sym (mark-more bytes c.loop-b.h c.loop-b.b-index c.loop-b-test.true) ∙ c.loop-b.invariant.1)
 
 pub returns : goal.returns
 returns c =
     let p = c.span_of-span.result in
-    sym (mark-end c.args.deck.now p.start p.size c.loop-j.invariant.1 c.loop-j.h c.loop-j.j c.loop-j-test.false) ∙ c.loop-j.invariant.2 ∙ span-mark c.args.deck.now c.args.key c.span_of-span.ensures
+    let bytes = take (p.start + p.size - p.start) (drop p.start c.args.deck.now) in
+    let e : p.start + p.size - p.start ≡ p.size = omega arith in
+    rw e at (sym (mark-end bytes c.loop-b.h c.loop-b.b-index c.loop-b-test.false) ∙ c.loop-b.invariant.1) ∙ span-mark c.args.deck.now c.args.key c.span_of-span.ensures

@@ -1,12 +1,9 @@
 use mathlib.Core.Path.{◌≡◌}
-use Prim.Native.Nat.{◌+◌, ◌-◌, ◌<◌, ◌≤◌}
-use lib.ListN.{length, take, drop}
+use Prim.Native.Nat.{◌<◌}
+use lib.ListN.{drop}
 use Rattle.pairing.specs.Keys.{mark_of}
 use Rattle.pairing.proofs.marks.key_mark.Given as goal
 
-abbrev pub invariant-loop-j : goal.invariant-loop-j
-invariant-loop-j l =
-    (l.h < 65536) × (l.start + l.size ≤ length l.deck) × (mark_of l.h (drop l.j (take l.size (drop l.start l.deck))) ≡ mark_of 0 (take l.size (drop l.start l.deck)))
-
-abbrev pub decreases-loop-j : goal.decreases-loop-j
-decreases-loop-j l = l.size - l.j
+-- h and the bytes that are left give the mark of all
+abbrev pub invariant-loop-b : goal.invariant-loop-b
+invariant-loop-b l = (l.h < 65536) × (mark_of l.h (drop l.b-index l.bytes) ≡ mark_of 0 l.bytes)

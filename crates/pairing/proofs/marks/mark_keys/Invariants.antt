@@ -1,4 +1,3 @@
-use Prim.Native.Nat.{◌-◌}
 use Rattle.tables.specs.ModelTable.{model_of}
 use Rattle.state_test.specs.StateTest.{fixed_in}
 use Rattle.pairing.specs.Keys.{key_by}
@@ -8,6 +7,3 @@ use Rattle.pairing.proofs.marks.mark_keys.Given as goal
 abbrev pub invariant-loop-k : goal.invariant-loop-k
 invariant-loop-k l =
     Marking (key_by l.by_name (fixed_in l.deck l.schema l.elements) (model_of l.model)) l.start l.n l.to l.initial.work l.work l.k
-
-abbrev pub decreases-loop-k : goal.decreases-loop-k
-decreases-loop-k l = l.n - l.k

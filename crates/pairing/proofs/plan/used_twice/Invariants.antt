@@ -1,5 +1,4 @@
 use mathlib.Core.Path.{◌≡◌}
-use Prim.Native.Nat.{◌-◌, ◌≤◌}
 use lib.Dec.{ltb}
 use lib.ListN.{drop}
 use Rattle.tables.specs.Lists.{first_of}
@@ -10,11 +9,8 @@ use Rattle.pairing.specs.Plans.{plan_in}
 use Rattle.pairing.specs.Walks.{second_children}
 use Rattle.pairing.proofs.plan.used_twice.Given as goal
 
-abbrev pub invariant-loop-j : goal.invariant-loop-j
-invariant-loop-j l =
-    (l.j ≤ l.n)
-    × (first_of (λ (b : Element). ltb 1 (rules.uses (plan_in l.s.rows l.new l.work) b)) (drop l.j (second_children l.s l.work))
-    ≡ first_used_twice (plan_in l.s.rows l.new l.work) (second_children l.s l.work))
-
-abbrev pub decreases-loop-j : goal.decreases-loop-j
-decreases-loop-j l = l.n - l.j
+-- the children of B that are left give the first that is used twice
+abbrev pub invariant-loop-b : goal.invariant-loop-b
+invariant-loop-b l =
+    first_of (λ (b : Element). ltb 1 (rules.uses (plan_in l.s.rows l.new l.work) b)) (drop l.b-index (second_children l.s l.work))
+    ≡ first_used_twice (plan_in l.s.rows l.new l.work) (second_children l.s l.work)
