@@ -113,7 +113,7 @@ pub fn cursor_action(
 {
     let m = element_name(elements, a);
     let n = element_name(elements, b);
-    if m.0 != n.0 {
+    if m != n {
         return Some(action_by_path(deck, schema, elements, t, a, b));
     }
     if is_identifiable(deck, schema, elements, model, a) {

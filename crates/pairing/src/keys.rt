@@ -13,13 +13,13 @@ ghost use Rattle.pairing.specs.Keys.{Keys, key_by, FindsChild, span_of};
 use schema_calls::calls::Found;
 use tables::elements::{element_name, element_type, text_kind, text_value};
 use tables::model::{Item, item_at, list_length};
-use tables::numbers::Element;
+use tables::numbers::{Element, Name};
 use tables::schema::type_named;
 use tables::text::{Place, Text, text_of};
 
-const SHORT_NAME: u64 = 1;
+const SHORT_NAME: Name = Name(1);
 
-const DEFINITION_REF: u64 = 2;
+const DEFINITION_REF: Name = Name(2);
 
 // Text t of the table.
 pub fn stored_text(elements: &[u64], t: usize) -> Text
@@ -102,7 +102,7 @@ fn identifier(
         return None;
     };
     let n = element_name(elements, c);
-    if n.0 != SHORT_NAME {
+    if n != SHORT_NAME {
         return None;
     }
     Some(c)
@@ -141,7 +141,7 @@ pub fn definition_child(
             continue;
         };
         let n = element_name(elements, c);
-        if n.0 == DEFINITION_REF {
+        if n == DEFINITION_REF {
             return Some(c);
         }
     }

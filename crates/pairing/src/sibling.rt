@@ -44,7 +44,7 @@ fn candidate_at(
     ensures { Candidates deck.now (span_of key) (has_key (fixed_in deck.now schema.now elements.now) (key_by by_name (fixed_in deck.now schema.now elements.now) (model_of model.now)) n.0 (key_is deck.now key) b.0) result }
 {
     let m = element_name(elements, b);
-    if m.0 != n.0 {
+    if m != n {
         return None;
     }
     let k = key_of(deck, schema, elements, model, by_name, b);

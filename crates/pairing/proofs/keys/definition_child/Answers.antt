@@ -22,20 +22,20 @@ loop-i-preserved-in_default c =
 pub element_name-n-requires : goal.element_name-n-requires
 element_name-n-requires c = record { good_elements = c.requires.good_fixed.elements_good; e_in_bounds = child-in c.requires.model_over c.args.e.0 c.loop-i.i (search rules) c.item_at.ensures c.in-Child.is }
 
-pub returns-then-n-eq-DEFINITION_REF : goal.returns-then-n-eq-DEFINITION_REF
-returns-then-n-eq-DEFINITION_REF c =
+pub returns-then-eq : goal.returns-then-eq
+returns-then-eq c =
     let x = fixed_in c.args.deck.now c.args.schema.now c.args.elements.now in
     let m = model_of c.args.model.now in
     let n = length (elements_of c.args.elements.now).names in
     let h = child-in c.requires.model_over c.args.e.0 c.loop-i.i (search rules) c.item_at.ensures c.in-Child.is in
-    definition-is x m c.args.e.0 n c.loop-i.i c.loop-i.invariant (search rules) c.item_at.ensures c.in-Child.is c.element_name-n.ensures c.if-n-eq-DEFINITION_REF.true h
+    definition-is x m c.args.e.0 n c.loop-i.i c.loop-i.invariant (search rules) c.item_at.ensures c.in-Child.is c.element_name-n.ensures (search rules) h
 
 pub loop-i-preserved : goal.loop-i-preserved
 loop-i-preserved c =
     let x = fixed_in c.args.deck.now c.args.schema.now c.args.elements.now in
     let m = model_of c.args.model.now in
     let n = length (elements_of c.args.elements.now).names in
-    definition-other x m c.args.e.0 n c.loop-i.i c.loop-i.invariant (search rules) c.item_at.ensures c.in-Child.is c.element_name-n.ensures c.if-n-eq-DEFINITION_REF.false
+    definition-other x m c.args.e.0 n c.loop-i.i c.loop-i.invariant (search rules) c.item_at.ensures c.in-Child.is c.element_name-n.ensures (search rules)
 
 pub returns : goal.returns
 returns c =

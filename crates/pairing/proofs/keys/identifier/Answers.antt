@@ -33,12 +33,12 @@ returns-in_default c =
 pub element_name-n-requires : goal.element_name-n-requires
 element_name-n-requires c = record { good_elements = c.requires.good_fixed.elements_good; e_in_bounds = child-in c.requires.model_over c.args.e.0 0 (search rules) c.item_at.ensures c.in-Child.is }
 
-pub returns-then-n-ne-SHORT_NAME : goal.returns-then-n-ne-SHORT_NAME
-returns-then-n-ne-SHORT_NAME c =
+pub returns-then-ne : goal.returns-then-ne
+returns-then-ne c =
     let x = fixed_in c.args.deck.now c.args.schema.now c.args.elements.now in
     let m = model_of c.args.model.now in
     let n = length (elements_of c.args.elements.now).names in
-    identifier-other n x m c.args.e.0 c.element_type-t.ensures c.type_named.ensures c.if-not-type_named.false c.list_length.ensures c.if-list_length-eq0.false c.item_at.ensures c.in-Child.is c.element_name-n.ensures c.if-n-ne-SHORT_NAME.true
+    identifier-other n x m c.args.e.0 c.element_type-t.ensures c.type_named.ensures c.if-not-type_named.false c.list_length.ensures c.if-list_length-eq0.false c.item_at.ensures c.in-Child.is c.element_name-n.ensures (search rules)
 
 pub returns : goal.returns
 returns c =
@@ -46,4 +46,4 @@ returns c =
     let m = model_of c.args.model.now in
     let n = length (elements_of c.args.elements.now).names in
     let h = child-in c.requires.model_over c.args.e.0 0 (search rules) c.item_at.ensures c.in-Child.is in
-    identifier-is n x m c.args.e.0 c.element_type-t.ensures c.type_named.ensures c.if-not-type_named.false c.list_length.ensures c.if-list_length-eq0.false c.item_at.ensures c.in-Child.is c.element_name-n.ensures c.if-n-ne-SHORT_NAME.false h
+    identifier-is n x m c.args.e.0 c.element_type-t.ensures c.type_named.ensures c.if-not-type_named.false c.list_length.ensures c.if-list_length-eq0.false c.item_at.ensures c.in-Child.is c.element_name-n.ensures (search rules) h
