@@ -1,6 +1,6 @@
 -- A level's plan in the scratch slice. For each child of A a row of two cells, its number and its mate's number + 1, or 0; then the B-only
 -- list, rows of two cells, element and position. Assumes nothing.
-use Rattle.std.specs.Prelude.{Result, Ok, Err, List, [], ◌∷◌, ◌++◌, ◌≡◌, ℕ, zero, suc, ◌+◌, ◌*◌, ◌<◌, ◌≤◌, length, get_or, take}
+use Rattle.std.specs.Prelude.{Result, Ok, Err, List, [], ◌∷◌, ◌++◌, ◌≡◌, ℕ, zero, suc, ◌+◌, ◌*◌, ◌<◌, ◌≤◌, length, get_or}
 use Rattle.std.proofs.Math.Option.{Option, none, some}
 use Rattle.tables.specs.Limits.{item_limit}
 use Rattle.tables.specs.Records.{Element, Version, Model, Fixed}
@@ -99,13 +99,8 @@ PlanIn n (Err e) w = Unit {0}
 
 -- ---- children copied
 
--- the first r cells are the list
-pub record Copied (part : List ℕ) (r : ℕ) (l : List Element) : Type 0 where
-  pub is : take r part ≡ l
-  pub within : r ≤ length part
-
--- the first r rows are the list's elements, with no mate
-pub record CopiedRows (w : List ℕ) (r : ℕ) (l : List Element) : Type 0 where
-  pub is : row_elements w r ≡ l
-  pub within : 2 * r ≤ length w
-  pub unpaired : (i : ℕ) → i < r → row_value w i ≡ 0
+-- the first r rows of so many cells have the list's elements, each in its row's first cell, and 0 in the cells behind it
+pub record CopiedRows (width : ℕ) (w : List ℕ) (r : ℕ) (l : List Element) : Type 0 where
+  pub is : spread (λ (i : ℕ). get_or w (width * i) 0 ∷ []) 0 r ≡ l
+  pub within : width * r ≤ length w
+  pub empty : (i c : ℕ) → i < r → 0 < c → c < width → get_or w (width * i + c) 0 ≡ 0

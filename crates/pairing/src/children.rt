@@ -3,19 +3,20 @@ ghost use Rattle.std.specs.Prelude.{◌≡◌, ◌+◌, ◌*◌, ◌<◌, ◌≤
 ghost use Rattle.tables.specs.Records.{list_of};
 ghost use Rattle.tables.specs.ModelTable.{count_of, model_of, GoodModel};
 ghost use Rattle.merge_rules.specs.Pairing.{children_of};
-ghost use Rattle.pairing.specs.Plans.{Copied, CopiedRows};
+ghost use Rattle.pairing.specs.Plans.{CopiedRows};
 ghost use Rattle.pairing.specs.Walks.{Laid};
 
 use crate::plan::Sides;
 use tables::model::{Item, item_at, list_length};
 use tables::numbers::Element;
 
-// The numbers of the element's children, one behind the other.
-pub fn copy_children(model: &[u64], e: Element, part: &mut [u16]) -> usize
+// A row of so many cells for each of the element's children: its number, and 0 in the cells behind it.
+pub fn copy_rows<const WIDTH: usize>(model: &[u64], e: Element, work: &mut [u16]) -> usize
     requires good_model { GoodModel model.now }
     requires e_bound { e.0 < count_of (model_of model.now) }
-    requires e_in_bounds { length (list_of (model_of model.now) e.0) ≤ length part.old }
-    ensures { Copied part.new result (children_of (model_of model.now) e.0) }
+    requires width_positive { 0 < WIDTH }
+    requires e_in_bounds { WIDTH * length (list_of (model_of model.now) e.0) ≤ length work.old }
+    ensures { CopiedRows WIDTH work.new result (children_of (model_of model.now) e.0) }
 {
     let n = list_length(model, e);
     let mut k: usize = 0;
@@ -24,30 +25,12 @@ pub fn copy_children(model: &[u64], e: Element, part: &mut [u16]) -> usize
             continue;
         };
         let number = x.0;
-        part[k] = number as u16;
-        k += 1;
-    }
-    k
-}
-
-// A row for each of the element's children: its number, and no mate.
-pub fn copy_rows(model: &[u64], e: Element, work: &mut [u16]) -> usize
-    requires good_model { GoodModel model.now }
-    requires e_bound { e.0 < count_of (model_of model.now) }
-    requires e_in_bounds { 2 * length (list_of (model_of model.now) e.0) ≤ length work.old }
-    ensures { CopiedRows work.new result (children_of (model_of model.now) e.0) }
-{
-    let n = list_length(model, e);
-    let mut k: usize = 0;
-    for i in 0..n {
-        let Item::Child(x) = item_at(model, e, i) else {
-            continue;
-        };
-        let number = x.0;
-        let at = 2 * k;
-        let mate = at + 1;
+        let at = WIDTH * k;
         work[at] = number as u16;
-        work[mate] = 0;
+        for c in 1..WIDTH {
+            let cell = at + c;
+            work[cell] = 0;
+        }
         k += 1;
     }
     k
@@ -61,9 +44,9 @@ pub fn copy_sides(model: &[u64], a: Element, b: Element, work: &mut [u16]) -> Si
     requires b_in_bounds { 2 * length (list_of (model_of model.now) a.0) + 5 * length (list_of (model_of model.now) b.0) ≤ length work.old }
     ensures { Laid (model_of model.now) a.0 b.0 result work.new }
 {
-    let rows = copy_rows(model, a, work);
+    let rows = copy_rows::<2>(model, a, work);
     let start = 2 * (rows + list_length(model, b));
-    let n = copy_children(model, b, &mut work[start..]);
+    let n = copy_rows::<1>(model, b, &mut work[start..]);
     Sides {
         rows,
         start,

@@ -1,12 +1,13 @@
 -- Children copied one by one. Assumes nothing.
 use mathlib.Core.List.{List, [], ◌∷◌, ◌++◌, append-nil}
 use mathlib.Core.Logic.{⊎_elim}
-use mathlib.Core.Path.{◌≡◌, refl, ap, ◌∙◌}
-use Prim.Native.Nat.{ℕ, ◌+◌, ◌*◌, ◌≤◌, ◌<◌}
+use mathlib.Core.Path.{◌≡◌, refl, sym, ap, ◌∙◌}
+use Prim.Native.Nat.{ℕ, suc, ◌+◌, ◌*◌, ◌≤◌, ◌<◌}
 use native.Mathlib.Numerals.{add-one}
 use native.Mathlib.Omega.{arith}
-use lib.ListN.{length, get_or, set, take, length-set}
-use lib.Seq.{take-suc, take-suc-set, take_all}
+use lib.ListN.{length, get_or, take}
+use lib.Seq.{take-suc, take_all, get_or-take, length-take-le, ext_get_or}
+use Rattle.std.proofs.Math.Nat.{mul-suc, mul-le-mul_left}
 use Rattle.tables.specs.Limits.{element_limit}
 use Rattle.tables.specs.Records.{Element, Item, child, text, Model, list_of}
 use Rattle.tables.specs.ModelTable.{item_is, count_of, model_of, ItemBelow, GoodModel}
@@ -15,9 +16,8 @@ use Rattle.tables.specs.declared.model.Item as program
 use Rattle.tables.specs.declared.model.Item.TheVariants.{Child, Text}
 use Rattle.merge_rules.specs.Pairing.{children, children_of}
 use Rattle.merge_rules.proofs.Laws.Cases.{same-or-other}
-use Rattle.pairing.specs.Plans.{spread, row_element, Copied, CopiedRows}
-use Rattle.pairing.proofs.Laws.Rows.{kept-two, two-first, two-second, elements-kept}
-use Rattle.pairing.proofs.Laws.Spreads.{spread-last}
+use Rattle.pairing.specs.Plans.{spread, CopiedRows}
+use Rattle.pairing.proofs.Laws.Spreads.{spread-last, spread_same, length-singles, get_d-singles}
 
 children-append : (l m : List Item) → children (l ++ m) ≡ children l ++ children m
 unfolding children
@@ -49,31 +49,56 @@ item-small xs good e i a h q x k =
     let below : ItemBelow (count_of (model_of xs)) (item_is a) = rw q (item-below xs good e i h) in
     omega (arith, rw k at below, good.sized.count)
 
--- ---- stores
+-- ---- rows of the same width
 
-pub copied_none : (part : List ℕ) → Copied part 0 (children [])
-unfolding children
-copied_none part = record { is = refl; within = omega arith }
+-- a row further on lies behind all cells of the rows before it
+pub row-end : (width i k : ℕ) → i < k → width * i + width ≤ width * k
+row-end width i k h =
+    let m : width * suc i ≤ width * k = mul-le-mul_left width (omega arith) in
+    rw mul-suc at m
 
-pub copied_more : (part : List ℕ) (k x : ℕ) (l : List Element) → k < length part → Copied part k l → Copied (set part k x) (k + 1) (l ++ (x ∷ []))
-copied_more part k x l h c =
-    record { is = rw (add-one k, take-suc-set part k x h, c.is); within = simp length-set (omega arith) }
-
-pub rows_none : (w : List ℕ) → CopiedRows w 0 (children [])
+pub rows_none : (width : ℕ) (w : List ℕ) → CopiedRows width w 0 (children [])
 unfolding children spread
-rows_none w = record { is = refl; within = omega arith; unpaired = λ i h. absurd (omega arith) }
+rows_none width w = record { is = refl; within = omega arith; empty = λ i c h. absurd (omega arith) }
 
-pub rows_more : (w : List ℕ) (k x : ℕ) (l : List Element) → 2 * k + 1 < length w → CopiedRows w k l
-    → CopiedRows (set (set w (2 * k) x) (2 * k + 1) 0) (k + 1) (l ++ (x ∷ []))
-rows_more w k x l h c =
-    let w' = set (set w (2 * k) x) (2 * k + 1) 0 in
-    let kept = kept-two w (2 * k) x 0 in
+-- one row more, which begins with x
+pub rows_more : (width : ℕ) → 0 < width → (w w' : List ℕ) (k x : ℕ) (l : List Element) → width * k + width ≤ length w' → CopiedRows width w k l
+    → get_or w' (width * k) 0 ≡ x → ((j : ℕ) → j < width * k → get_or w' j 0 ≡ get_or w j 0)
+    → ((c : ℕ) → 0 < c → c < width → get_or w' (width * k + c) 0 ≡ 0) → CopiedRows width w' (k + 1) (l ++ (x ∷ []))
+rows_more width pos w w' k x l fits h first before behind =
     record {
       is =
-          spread-last (λ (i : ℕ). row_element w' i ∷ []) k
-          ∙ rw (elements-kept w w' (2 * k) (2 * k + 2) kept k (λ m a b d. omega arith), c.is, two-first w (2 * k) x 0 h);
-      within = omega (arith, kept.size);
-      unpaired = λ i a.
-          ⊎_elim (λ (q : i ≡ k). rw q (two-second w (2 * k) x 0 h))
-          (λ (q : i ≡ k → ⊥). kept.outside (2 * i + 1) (λ b d. q (omega arith)) ∙ c.unpaired i (omega (arith, q))) (same-or-other i k);
+          spread-last (λ (i : ℕ). get_or w' (width * i) 0 ∷ []) k
+          ∙ rw (
+            spread_same (λ (i : ℕ). get_or w' (width * i) 0 ∷ []) (λ (i : ℕ). get_or w (width * i) 0 ∷ []) 0 k
+                (λ m a b. rw (before (width * m) (omega (arith, row-end width m k (omega arith))))),
+            h.is,
+            first,
+          );
+      within = rw (add-one k, mul-suc) fits;
+      empty = λ i c a p q.
+          ⊎_elim (λ (e : i ≡ k). rw e (behind c p q))
+          (λ (e : i ≡ k → ⊥).
+          let z : i < k = omega (arith, e) in
+          before (width * i + c) (omega (arith, row-end width i k z)) ∙ h.empty i c z p q) (same-or-other i k);
     }
+
+-- the first r cells are the list
+pub record Copied (part : List ℕ) (r : ℕ) (l : List Element) : Type 0 where
+  pub is : take r part ≡ l
+  pub within : r ≤ length part
+
+singles-take : (part : List ℕ) (r : ℕ) → r ≤ length part → spread (λ (i : ℕ). get_or part i 0 ∷ []) 0 r ≡ take r part
+singles-take part r h =
+    let f = λ (i : ℕ). get_or part i 0 in
+    let n = length-singles f 0 r in
+    ext_get_or 0 (spread (λ (i : ℕ). f i ∷ []) 0 r) (take r part) (n ∙ sym (length-take-le r part h))
+    (λ i a. let e : 0 + i ≡ i = omega arith in get_d-singles f 0 r i 0 (omega (arith, n)) ∙ rw e (sym (get_or-take r part i 0 (omega (arith, n)))))
+
+-- rows of one cell
+pub copied_cells : (part : List ℕ) (r : ℕ) (l : List Element) → CopiedRows 1 part r l → Copied part r l
+copied_cells part r l h =
+    let one : (i : ℕ) → 1 * i ≡ i = λ i. omega arith in
+    let within : r ≤ length part = omega (arith, h.within) in
+    let same = spread_same (λ (i : ℕ). get_or part (1 * i) 0 ∷ []) (λ (i : ℕ). get_or part i 0 ∷ []) 0 r (λ m a b. rw (one m)) in
+    record { is = sym (singles-take part r within) ∙ sym same ∙ h.is; within = within }

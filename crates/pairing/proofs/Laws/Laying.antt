@@ -16,8 +16,9 @@ use Rattle.deck.specs.Schema.{splittable_in}
 use Rattle.merge_rules.specs.Pairing.{children, children_of, action_of, planned, restrict_first, left_over_a, walk, walk_level, first_used_twice}
 use Rattle.pairing.specs.declared.plan.Sides.{Sides}
 use Rattle.pairing.specs.Actions.{Listed}
-use Rattle.pairing.specs.Plans.{spread, row_element, row_value, restriction_in, pair_in, plan_in, level_plan, or_used_twice, checked_plan, plan_level, Copied, CopiedRows}
+use Rattle.pairing.specs.Plans.{spread, row_element, row_value, restriction_in, pair_in, plan_in, level_plan, or_used_twice, checked_plan, plan_level, CopiedRows}
 use Rattle.pairing.specs.Walks.{first_children, second_children, walk_on, Laid}
+use Rattle.pairing.proofs.Laws.Children.{Copied}
 use Rattle.pairing.proofs.Laws.Rows.{restricted, not-mated, elements_same, get_d-first, front_at}
 use Rattle.pairing.proofs.Laws.Spreads.{spread_none, spread_same, length-singles}
 use Rattle.pairing.proofs.Laws.Walks.{no_plan, no_second}
@@ -49,7 +50,7 @@ module _ (xs : List ℕ) (good : GoodModel xs) (e : Element) where
   pub list-few : e < count_of (model_of xs) → length (list_of (model_of xs) e) ≤ item_limit
   list-few h = omega (arith, start-room xs good e h, good.sized.total)
 
-  pub rows_few_lem : (w : List ℕ) (r : ℕ) → CopiedRows w r (children_of (model_of xs) e) → r ≤ length (list_of (model_of xs) e)
+  pub rows_few_lem : (w : List ℕ) (r : ℕ) → CopiedRows 2 w r (children_of (model_of xs) e) → r ≤ length (list_of (model_of xs) e)
   rows_few_lem w r c = omega (arith, length-singles (row_element w) 0 r, ap length c.is, length-children_of)
 
   pub copied-few : (part : List ℕ) (r : ℕ) → Copied part r (children_of (model_of xs) e) → r ≤ length (list_of (model_of xs) e)
@@ -69,7 +70,7 @@ module _ (w part : List ℕ) (start : ℕ) (fits : start ≤ length w) where
       ap (take n) (drop_at (take start w) (part ++ _) start (length-take-le start w fits)) ∙ take-append-le n part _ h
 
 module _ (xs : List ℕ) (good : GoodModel xs) (a b : Element) (ha : a < count_of (model_of xs)) (hb : b < count_of (model_of xs)) where
-  pub laid : (w part : List ℕ) (rows lb n : ℕ) → CopiedRows w rows (children_of (model_of xs) a) → lb ≡ length (list_of (model_of xs) b)
+  pub laid : (w part : List ℕ) (rows lb n : ℕ) → CopiedRows 2 w rows (children_of (model_of xs) a) → lb ≡ length (list_of (model_of xs) b)
       → Copied part n (children_of (model_of xs) b) → length part ≡ length (mid_of (2 * (rows + lb)) (length w - 2 * (rows + lb)) w)
       → 2 * length (list_of (model_of xs) a) + 5 * length (list_of (model_of xs) b) ≤ length w
       → Laid (model_of xs) a b (record { rows = rows; start = 2 * (rows + lb); end = 2 * (rows + lb) + n })
@@ -89,7 +90,7 @@ module _ (xs : List ℕ) (good : GoodModel xs) (a b : Element) (ha : a < count_o
       let e : start + n - start ≡ n = omega arith in
       let f : first_children s w' ≡ children_of m a = elements_same w w' rows (λ i h. front (2 * i) (omega arith)) ∙ first.is in
       let t : second_children s w' ≡ children_of m b = rw e (back-same w part start fits n second.within ∙ second.is) in
-      let zero : (i : ℕ) → i < rows → row_value w' i ≡ 0 = λ i h. front (2 * i + 1) (omega arith) ∙ first.unpaired i h in
+      let zero : (i : ℕ) → i < rows → row_value w' i ≡ 0 = λ i h. front (2 * i + 1) (omega arith) ∙ first.empty i 1 h (omega arith) (omega arith) in
       record {
         first = f;
         second = t;
