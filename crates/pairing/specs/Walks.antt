@@ -8,6 +8,8 @@ use Rattle.tables.specs.ModelTable.{count_of}
 use Rattle.merge_rules.specs.Pairing.{item_name, definition, children_of, Action, merge_equal, a_only, Pair, NewItem, Plan, Walked, planned, unmergeable_in, import_unpaired, action_of, walk}
 use Rattle.pairing.specs.declared.plan.Sides.{Sides}
 use Rattle.pairing.specs.declared.plan.Cursors.{Cursors}
+use Rattle.pairing.specs.declared.plan.Use.{Use}
+use Rattle.pairing.specs.declared.plan.Use.TheVariants.{Unused, Imported, ImportedAgain, Paired, PairedAgain}
 use Rattle.pairing.specs.declared.action.Action as program
 use Rattle.pairing.specs.declared.action.Action.TheVariants.{MergeEqual, MergeUnequal, AOnly, BOnly, UnmergeableParent}
 use Rattle.pairing.specs.Actions.{Listed, action_is, ActionIn}
@@ -75,24 +77,51 @@ pair_uses p e = length (keep (λ (q : Pair). eqb q.b e) p.pairs)
 unfoldable pub import_uses : Plan → Element → ℕ
 import_uses p e = length (keep (λ (i : NewItem). eqb i.element e) p.imports)
 
--- of so many pairs and so many imports: 0 without any, 2 if imported only, 4 if paired, and 1 more if used more than once
-unfoldable pub use_of : ℕ → ℕ → ℕ
-use_of zero zero = 0
-use_of zero (suc zero) = 2
-use_of zero (suc (suc imports)) = 3
-use_of (suc zero) zero = 4
-use_of (suc zero) (suc imports) = 5
-use_of (suc (suc pairs)) imports = 5
+-- of so many pairs and so many imports
+unfoldable pub use_of : ℕ → ℕ → Use
+use_of zero zero = Unused
+use_of zero (suc zero) = Imported
+use_of zero (suc (suc imports)) = ImportedAgain
+use_of (suc zero) zero = Paired
+use_of (suc zero) (suc imports) = PairedAgain
+use_of (suc (suc pairs)) imports = PairedAgain
 
--- after one use more: an import, 2, or a pair, 4
-unfoldable pub used_again : ℕ → ℕ → ℕ
-used_again kind zero = kind
-used_again kind (suc before) = kind + 1
+-- after one import more of what is in no pair
+abbrev pub imported_again : Use → Use
+imported_again Unused = Imported
+imported_again Imported = ImportedAgain
+imported_again ImportedAgain = ImportedAgain
+imported_again Paired = ImportedAgain
+imported_again PairedAgain = ImportedAgain
+
+-- after one pair more
+abbrev pub paired_again : Use → Use
+paired_again Unused = Paired
+paired_again Imported = PairedAgain
+paired_again ImportedAgain = PairedAgain
+paired_again Paired = PairedAgain
+paired_again PairedAgain = PairedAgain
+
+-- in a pair
+abbrev pub is_paired : Use → Bool
+is_paired Unused = false
+is_paired Imported = false
+is_paired ImportedAgain = false
+is_paired Paired = true
+is_paired PairedAgain = true
+
+-- used more than once
+abbrev pub is_repeated : Use → Bool
+is_repeated Unused = false
+is_repeated Imported = false
+is_repeated ImportedAgain = true
+is_repeated Paired = false
+is_repeated PairedAgain = true
 
 -- the array tells the uses of each element in the plan
-pub record Counted (p : Plan) (used : List ℕ) : Type 0 where
+pub record Counted (p : Plan) (used : List Use) : Type 0 where
   pub size : length used ≡ element_limit
-  pub is : (e : ℕ) → e < element_limit → get_or used e 0 ≡ use_of (pair_uses p e) (import_uses p e)
+  pub is : (e : ℕ) → e < element_limit → get_or used e Unused ≡ use_of (pair_uses p e) (import_uses p e)
 
 -- p so far, and the walk from child i of A and j of B on, are the whole
 pub record Planning (act : Element → Element → Action) (end : ℕ) (whole : Walked) (p : Plan) (as' bs : List Element) (i j : ℕ) : Type 0 where
@@ -120,7 +149,7 @@ pub record Ranged (n : ℕ) (s : Sides) (w : List ℕ) (k : ℕ) : Type 0 where
   pub second : Listed n (second_children s w)
 
 -- from child i of A and j of B the walk came to i' and j', if P holds of the rule's action and end, and Q of the number of elements
-pub record Walks (s : Sides) (P : (Element → Element → Action) → ℕ → Type 0) (Q : ℕ → Type 0) (w : List ℕ) (i j k : ℕ) (w' used : List ℕ) (i' j' k' : ℕ) : Type 0 where
+pub record Walks (s : Sides) (P : (Element → Element → Action) → ℕ → Type 0) (Q : ℕ → Type 0) (w : List ℕ) (i j k : ℕ) (w' : List ℕ) (used : List Use) (i' j' k' : ℕ) : Type 0 where
   pub room : WorkRoom s w' i' j' k'
   pub counted : Counted (plan_up_to s.rows i' k' w') used
   pub behind : drop s.start w' ≡ drop s.start w
@@ -130,7 +159,7 @@ pub record Walks (s : Sides) (P : (Element → Element → Action) → ℕ → T
       → Planning act end whole (plan_up_to s.rows i' k' w') (first_children s w') (second_children s w') i' j'
 
 -- one step by an action
-abbrev pub Advances : Sides → program.Action → List ℕ → Cursors → List ℕ → List ℕ → Cursors → Type 0
+abbrev pub Advances : Sides → program.Action → List ℕ → Cursors → List ℕ → List Use → Cursors → Type 0
 Advances s o w c w' used r =
     Walks s (λ (act : Element → Element → Action) (end : ℕ). action_is o ≡ next_action act (first_children s w) (second_children s w) c.a c.b)
     (λ (n : ℕ). ActionIn n o) w c.a c.b c.new w' used r.a r.b r.new
@@ -142,13 +171,13 @@ StepPasses act end as' bs i j position =
     → walk_on act end i (drop i as') (drop j bs) paired ≡ import_unpaired paired (get_or bs j 0) position (walk_on act end i (drop i as') (drop (j + 1) bs) paired)
 
 -- one child of B passed
-abbrev pub Imports : Sides → ℕ → List ℕ → Cursors → List ℕ → List ℕ → ℕ → Type 0
+abbrev pub Imports : Sides → ℕ → List ℕ → Cursors → List ℕ → List Use → ℕ → Type 0
 Imports s position w c w' used r =
     Walks s (λ (act : Element → Element → Action) (end : ℕ). StepPasses act end (first_children s w) (second_children s w) c.a c.b position)
     (λ (n : ℕ). position ≤ item_limit) w c.a c.b c.new w' used c.a (c.b + 1) r
 
 -- left-over B
-abbrev pub Finishes : Sides → ℕ → List ℕ → Cursors → List ℕ → List ℕ → ℕ → Type 0
+abbrev pub Finishes : Sides → ℕ → List ℕ → Cursors → List ℕ → List Use → ℕ → Type 0
 Finishes s position w c w' used r =
     Walks s (λ (act : Element → Element → Action) (end : ℕ). end ≡ position) (λ (n : ℕ). position ≤ item_limit) w c.a c.b c.new w' used
     c.a (s.end - s.start) r

@@ -5,15 +5,55 @@ ghost use Rattle.std.specs.Prelude.{◌≡◌, ℕ, ◌+◌, ◌-◌, ◌*◌, �
 ghost use Rattle.tables.specs.Limits.{element_limit, item_limit};
 ghost use Rattle.merge_rules.specs.Pairing.{first_used_twice};
 ghost use Rattle.pairing.specs.Plans.{plan_up_to, plan_in, planned_is, or_used_twice, RowsIn, PlanIn};
-ghost use Rattle.pairing.specs.Walks.{second_children, StepIn, WorkRoom, used_again, Counted, Advances, Imports, Finishes};
+ghost use Rattle.pairing.specs.Walks.{second_children, StepIn, WorkRoom, imported_again, paired_again, is_paired, is_repeated, Counted, Advances, Imports, Finishes};
 
 use crate::action::Action;
 use tables::numbers::Element;
 
-// What `uses` holds of an element: 0 if it has no use, IMPORTED, or PAIRED if it is in a pair; 1 more if it has more than one use.
-const IMPORTED: u8 = 2;
+// What the plan so far does with a child of B. The array of these is as large as one of bytes.
+#[derive(Clone, Copy, PartialEq, Eq)]
+pub enum Use {
+    Unused,
+    Imported,
+    ImportedAgain,
+    Paired,
+    PairedAgain,
+}
 
-const PAIRED: u8 = 4;
+impl Use {
+    // After one import more.
+    fn imported_again(self) -> Use
+        ensures { result ≡ imported_again self }
+    {
+        match self {
+            Use::Unused => Use::Imported,
+            _ => Use::ImportedAgain,
+        }
+    }
+
+    // After one pair more.
+    fn paired_again(self) -> Use
+        ensures { result ≡ paired_again self }
+    {
+        match self {
+            Use::Unused => Use::Paired,
+            _ => Use::PairedAgain,
+        }
+    }
+
+    fn is_paired(self) -> bool
+        ensures { result ≡ is_paired self }
+    {
+        matches!(self, Use::Paired | Use::PairedAgain)
+    }
+
+    // Whether there is more than one use.
+    fn is_repeated(self) -> bool
+        ensures { result ≡ is_repeated self }
+    {
+        matches!(self, Use::ImportedAgain | Use::PairedAgain)
+    }
+}
 
 // A plan: how many rows of A, and of the B-only list.
 #[derive(Clone, Copy)]
@@ -45,30 +85,18 @@ pub struct Cursors {
     pub new: usize,
 }
 
-// One use more of element e, an import or a pair.
-fn count_use(uses: &mut [u8], e: usize, kind: u8)
-    requires e_in_bounds { e < length uses.old }
-    requires kind_bound { kind < 255 }
-    ensures { uses.new ≡ set uses.old e (used_again kind (get_or uses.old e 0)) }
-{
-    if uses[e] == 0 {
-        uses[e] = kind;
-        return;
-    }
-    uses[e] = kind + 1;
-}
-
 // The child of A in row i is paired with e.
-fn pair_row(work: &mut [u16], uses: &mut [u8], i: usize, e: usize)
+fn pair_row(work: &mut [u16], uses: &mut [Use], i: usize, e: usize)
     requires i_in_bounds { 2 * i + 1 < length work.old }
     requires e_lt_element_limit { e < element_limit }
     requires e_in_bounds { e < length uses.old }
     ensures work_after { work.new ≡ set work.old (2 * i + 1) (e + 1) }
-    ensures uses_after { uses.new ≡ set uses.old e (used_again 4 (get_or uses.old e 0)) }
+    ensures uses_after { uses.new ≡ set uses.old e (paired_again (get_or uses.old e Use.Unused)) }
 {
     let at = 2 * i + 1;
     work[at] = e as u16 + 1;
-    count_use(uses, e, PAIRED);
+    let used = uses[e];
+    uses[e] = used.paired_again();
 }
 
 // The first child of A is paired with the child of B at this place.
@@ -82,7 +110,7 @@ pub fn pair_first(work: &mut [u16], at: usize)
 }
 
 // B-only: the cursor child of B at this position, unless it is already paired. Gives the length of the B-only list.
-fn import_next(work: &mut [u16], uses: &mut [u8], s: Sides, c: Cursors, position: usize) -> usize
+fn import_next(work: &mut [u16], uses: &mut [Use], s: Sides, c: Cursors, position: usize) -> usize
     requires work_room { WorkRoom s work.old c.a c.b c.new }
     requires counted { Counted (plan_up_to s.rows c.a c.new work.old) uses.old }
     requires b_bound { s.start + c.b < s.end }
@@ -92,19 +120,20 @@ fn import_next(work: &mut [u16], uses: &mut [u8], s: Sides, c: Cursors, position
     let at = s.start + c.b;
     let k = c.new;
     let e = work[at] as usize;
-    if PAIRED <= uses[e] {
+    let used = uses[e];
+    if used.is_paired() {
         return k;
     }
     let row = 2 * (s.rows + k);
     let second = row + 1;
     work[row] = e as u16;
     work[second] = position as u16;
-    count_use(uses, e, IMPORTED);
+    uses[e] = used.imported_again();
     k + 1
 }
 
 // One step of the walk.
-pub fn advance(work: &mut [u16], uses: &mut [u8], s: Sides, c: Cursors, act: Action) -> Cursors
+pub fn advance(work: &mut [u16], uses: &mut [Use], s: Sides, c: Cursors, act: Action) -> Cursors
     requires work_room { WorkRoom s work.old c.a c.b c.new }
     requires counted { Counted (plan_up_to s.rows c.a c.new work.old) uses.old }
     requires a_lt_rows { c.a < s.rows }
@@ -153,7 +182,7 @@ pub fn advance(work: &mut [u16], uses: &mut [u8], s: Sides, c: Cursors, act: Act
 // Left-over B at this position. Gives the length of the B-only list.
 pub fn import_rest(
     work: &mut [u16],
-    uses: &mut [u8],
+    uses: &mut [Use],
     s: Sides,
     c: Cursors,
     position: usize,
@@ -174,7 +203,7 @@ pub fn import_rest(
 }
 
 // The plan, or the first child of B that it uses twice.
-pub fn used_twice(work: &[u16], uses: &[u8], s: Sides, new: usize) -> Result<Rows, Unplanned>
+pub fn used_twice(work: &[u16], uses: &[Use], s: Sides, new: usize) -> Result<Rows, Unplanned>
     requires work_room { WorkRoom s work.now s.rows (s.end - s.start) new }
     requires counted { Counted (plan_in s.rows new work.now) uses.now }
     ensures work_value { planned_is result work.now ≡ or_used_twice (plan_in s.rows new work.now) (first_used_twice (plan_in s.rows new work.now) (second_children s work.now)) }
@@ -182,7 +211,7 @@ pub fn used_twice(work: &[u16], uses: &[u8], s: Sides, new: usize) -> Result<Row
 {
     for b in &work[s.start..s.end] {
         let e = *b as usize;
-        if uses[e] % 2 == 1 {
+        if uses[e].is_repeated() {
             return Err(Unplanned::UsedTwice(Element(e)));
         }
     }

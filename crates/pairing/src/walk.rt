@@ -15,7 +15,9 @@ ghost use Rattle.pairing.specs.Walks.{first_children, second_children, next_acti
 use crate::action::{Action, cursor_action, search_action};
 use crate::children::copy_sides;
 use crate::marks::mark_children;
-use crate::plan::{Cursors, Rows, Sides, Unplanned, advance, import_rest, pair_first, used_twice};
+use crate::plan::{
+    Cursors, Rows, Sides, Unplanned, Use, advance, import_rest, pair_first, used_twice,
+};
 use schema_calls::calls::splittable_in;
 use tables::elements::element_type;
 use tables::model::list_length;
@@ -161,7 +163,7 @@ fn walk(
     ensures work_after { planned_is result work.new ≡ checked_plan (second_children s work.old) (walk_on (action_of (fixed_in deck.now schema.now elements.now) (model_of model.now) t.0 splittable (second_children s work.old)) end 0 (first_children s work.old) (second_children s work.old) []) }
     ensures plan_in { PlanIn (length (elements_of elements.now).names) result work.new }
 {
-    let mut uses = [0u8; 1024];
+    let mut uses = [Use::Unused; 1024];
     let mut c = Cursors { a: 0, b: 0, new: 0 };
     let mut marked = false;
     while c.a < s.rows {

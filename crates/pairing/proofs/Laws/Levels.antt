@@ -10,6 +10,8 @@ use Rattle.tables.specs.Records.{Element}
 use Rattle.merge_rules.specs.Pairing.{Action, merge_equal, b_only, unmergeable_parent, planned, first_used_twice}
 use Rattle.pairing.specs.declared.plan.Sides.{Sides}
 use Rattle.pairing.specs.declared.plan.Cursors.{Cursors}
+use Rattle.pairing.specs.declared.plan.Use.{Use}
+use Rattle.pairing.specs.declared.plan.Use.TheVariants.{Unused}
 use Rattle.pairing.specs.declared.action.Action as program
 use Rattle.pairing.specs.declared.action.Action.TheVariants.{MergeEqual, MergeUnequal, AOnly, BOnly, UnmergeableParent}
 use Rattle.pairing.specs.Actions.{action_is, Acts}
@@ -19,10 +21,10 @@ use Rattle.pairing.proofs.Laws.Planning.{next-other, planning-neither, planning-
 use Rattle.pairing.proofs.Laws.Rows.{CellsKept, front_kept, plan-kept, elements-kept, length-first, length-second, second-behind, front_at, second-front}
 
 -- nothing is counted
-counted_none : (na : ℕ) (w : List ℕ) → Counted (plan_up_to na 0 0 w) (replicate 1024 0)
+counted_none : (na : ℕ) (w : List ℕ) → Counted (plan_up_to na 0 0 w) (replicate 1024 Unused)
 unfolding spread pair_uses import_uses use_of keep
 counted_none na w =
-    record { size = length-replicate {A = ℕ} 1024 0; is = λ e h. get_or-replicate {A = ℕ} 1024 e 0 0 h }
+    record { size = length-replicate {A = Use} 1024 Unused; is = λ e h. get_or-replicate {A = Use} 1024 e Unused Unused h }
 
 -- ---- the action at the cursors
 
@@ -46,14 +48,14 @@ module _ (action : List Element → Element → Element → Action) (n : ℕ) (s
   ruled = action (second_children s w)
 
   -- from w the walk came to w', to child i of A and j of B
-  pub record WalksFrom (w' used : List ℕ) (i j k : ℕ) : Type 0 where
+  pub record WalksFrom (w' : List ℕ) (used : List Use) (i j k : ℕ) : Type 0 where
     pub room : WorkRoom s w' i j k
     pub ranged : Ranged n s w' k
     pub counted : Counted (plan_up_to s.rows i k w') used
     pub second : second_children s w' ≡ second_children s w
     pub plans : (end : ℕ) → Planning ruled end (walk_on ruled end 0 (first_children s w) (second_children s w) []) (plan_up_to s.rows i k w') (first_children s w') (second_children s w') i j
 
-  pub walk_start : WorkRoom s w 0 0 0 → Ranged n s w 0 → WalksFrom w (replicate 1024 0) 0 0 0
+  pub walk_start : WorkRoom s w 0 0 0 → Ranged n s w 0 → WalksFrom w (replicate 1024 Unused) 0 0 0
   unfolding spread
   walk_start room ranged =
       record {
@@ -64,14 +66,14 @@ module _ (action : List Element → Element → Element → Action) (n : ℕ) (s
         plans = λ end. planning-start ruled end (first_children s w) (second_children s w);
       }
 
-  module _ (w' used : List ℕ) (i j k : ℕ) (sofar : WalksFrom w' used i j k) where
+  module _ (w' : List ℕ) (used : List Use) (i j k : ℕ) (sofar : WalksFrom w' used i j k) where
     next-sofar : (o : program.Action) → Acts n o (next_action (action (second_children s w')) (first_children s w') (second_children s w') i j)
         → action_is o ≡ next_action ruled (first_children s w') (second_children s w') i j
     next-sofar o a = a.is ∙ ap (λ (l : List Element). next_action (action l) (first_children s w') (second_children s w') i j) sofar.second
 
     -- one step more
     pub walk_turn : (o : program.Action) → Acts n o (next_action (action (second_children s w')) (first_children s w') (second_children s w') i j)
-        → (w'' used'' : List ℕ) (r : Cursors) → Advances s o w' (record { a = i; b = j; new = k }) w'' used'' r → WalksFrom w'' used'' r.a r.b r.new
+        → (w'' : List ℕ) (used'' : List Use) (r : Cursors) → Advances s o w' (record { a = i; b = j; new = k }) w'' used'' r → WalksFrom w'' used'' r.a r.b r.new
     walk_turn o a w'' used'' r step =
         record {
           room = step.room;
@@ -143,7 +145,7 @@ module _ (action : List Element → Element → Element → Action) (n : ℕ) (s
         rw (planning-neither ruled end _ (plan_up_to s.rows i k w') (first_children s w') (second_children s w') i j (sofar.plans end) l e)
 
     -- left-over B, and the answer
-    module _ (end : ℕ) (w'' used'' : List ℕ) (new : ℕ) (rest : Finishes s end w' (record { a = i; b = j; new = k }) w'' used'' new) (all : i ≡ s.rows) where
+    module _ (end : ℕ) (w'' : List ℕ) (used'' : List Use) (new : ℕ) (rest : Finishes s end w' (record { a = i; b = j; new = k }) w'' used'' new) (all : i ≡ s.rows) where
       whole-planned : planned (plan_in s.rows new w'') ≡ walk_on ruled end 0 (first_children s w) (second_children s w) []
       whole-planned =
           let p = rw all at (rest.plans ruled end _ refl (sofar.plans end)) in

@@ -16,6 +16,7 @@ use Rattle.merge_rules.specs.Pairing.{Action, a_only, b_only, Plan, uses}
 use Rattle.pairing.specs.declared.plan.Sides.{Sides}
 use Rattle.pairing.specs.declared.action.Action as program
 use Rattle.pairing.specs.declared.action.Action.TheVariants.{MergeEqual, MergeUnequal, BOnly, UnmergeableParent}
+use Rattle.pairing.specs.declared.plan.Use.{Use}
 use Rattle.pairing.specs.Plans.{row_element, level_plan, child_used_twice, or_used_twice}
 use Rattle.pairing.specs.Walks.{first_children, second_children, next_action, StepIn, WorkRoom, Ranged, Walks, StepPasses}
 use Rattle.pairing.proofs.Laws.Planning.{next_here, next-behind, passes-second, passes-rest}
@@ -49,7 +50,7 @@ module _ (s : Sides) (w : List ℕ) (i j k : ℕ) (room : WorkRoom s w i j k) wh
   next_past act l = next-behind act (first_children s w) (second_children s w) i j (omega (arith, length-second s w room.within))
 
   -- B only in the walk
-  pub walks-second : (w' used : List ℕ) (k' : ℕ) → i < s.rows
+  pub walks-second : (w' : List ℕ) (used : List Use) (k' : ℕ) → i < s.rows
       → Walks s (λ (act : Element → Element → Action) (end : ℕ). StepPasses act end (first_children s w) (second_children s w) i j i) (λ (n : ℕ). i ≤ item_limit)
       w i j k w' used i (j + 1) k'
       → Walks s (λ (act : Element → Element → Action) (end : ℕ). b_only ≡ next_action act (first_children s w) (second_children s w) i j) (λ (n : ℕ). Unit {0})

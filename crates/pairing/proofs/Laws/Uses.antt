@@ -1,9 +1,9 @@
 -- Uses of an element in a plan, and the array that tells of them. Assumes nothing.
-use mathlib.Core.Bool.{Bool, true, false}
+use mathlib.Core.Bool.{Bool, true, false, true≢false, false≢true}
 use mathlib.Core.List.{List, [], ◌∷◌, ◌++◌}
 use mathlib.Core.Logic.{⊎_elim}
 use mathlib.Core.Path.{◌≡◌, refl, sym, ap, ◌∙◌}
-use Prim.Native.Nat.{ℕ, zero, suc, ◌+◌, ◌%◌, ◌≤◌, ◌<◌}
+use Prim.Native.Nat.{ℕ, zero, suc, ◌+◌, ◌≤◌, ◌<◌}
 use native.Mathlib.Numerals.{add-one}
 use native.Mathlib.Omega.{arith}
 use borrow.Author.Tests.{eq-eqb, ne_eqb}
@@ -15,7 +15,9 @@ use Rattle.tables.specs.Lists.{keep}
 use Rattle.tables.specs.Records.{Element}
 use Rattle.merge_rules.specs.Pairing.{Pair, NewItem, Plan, uses}
 use Rattle.merge_rules.proofs.Laws.Cases.{same-or-other}
-use Rattle.pairing.specs.Walks.{pair_uses, import_uses, use_of, used_again, Counted}
+use Rattle.pairing.specs.declared.plan.Use.{Use}
+use Rattle.pairing.specs.declared.plan.Use.TheVariants.{Unused}
+use Rattle.pairing.specs.Walks.{pair_uses, import_uses, use_of, imported_again, paired_again, is_paired, is_repeated, Counted}
 use Rattle.pairing.proofs.Laws.Walks.{plus_restriction, plus_import, plus_pair}
 use Rattle.tables.proofs.Laws.Cases.{bool-split}
 
@@ -69,19 +71,10 @@ import-other : (p : Plan) (b at e : Element) → (b ≡ e → ⊥) → import_us
 unfolding import_uses
 import-other p b at e h = uses-other (λ (i : NewItem). i.element) p.imports (record { element = b; position = at }) e h
 
--- ---- the number that tells of them
+-- ---- the use that tells of them
 
-pub used-first : (kind u : ℕ) → u ≡ 0 → used_again kind u ≡ kind
-unfolding used_again
-used-first kind u e = rw e
-
-pub used-more : (kind u : ℕ) → (u ≡ 0 → ⊥) → used_again kind u ≡ kind + 1
-unfolding used_again
-used-more kind zero n = absurd (n refl)
-used-more kind (suc u) n = refl
-
-paired-again : (p i : ℕ) → used_again 4 (use_of p i) ≡ use_of (p + 1) i
-unfolding use_of used_again
+paired-again : (p i : ℕ) → paired_again (use_of p i) ≡ use_of (p + 1) i
+unfolding use_of
 paired-again zero zero = refl
 paired-again zero (suc zero) = refl
 paired-again zero (suc (suc i)) = refl
@@ -89,62 +82,62 @@ paired-again (suc zero) zero = refl
 paired-again (suc zero) (suc i) = refl
 paired-again (suc (suc p)) i = rw (add-one (suc (suc p)))
 
-imported-again : (i : ℕ) → used_again 2 (use_of 0 i) ≡ use_of 0 (i + 1)
-unfolding use_of used_again
+imported-again : (i : ℕ) → imported_again (use_of 0 i) ≡ use_of 0 (i + 1)
+unfolding use_of
 imported-again zero = refl
 imported-again (suc zero) = refl
 imported-again (suc (suc i)) = rw (add-one (suc (suc i)))
 
-use-paired : (p i : ℕ) → 4 ≤ use_of p i → p ≡ 0 → ⊥
+use-paired : (p i : ℕ) → is_paired (use_of p i) ≡ true → p ≡ 0 → ⊥
 unfolding use_of
-use-paired zero zero h e = omega arith
-use-paired zero (suc zero) h e = omega arith
-use-paired zero (suc (suc i)) h e = omega arith
+use-paired zero zero h e = false≢true h
+use-paired zero (suc zero) h e = false≢true h
+use-paired zero (suc (suc i)) h e = false≢true h
 use-paired (suc p) i h e = omega arith
 
-use-unpaired : (p i : ℕ) → use_of p i < 4 → p ≡ 0
+use-unpaired : (p i : ℕ) → is_paired (use_of p i) ≡ false → p ≡ 0
 unfolding use_of
 use-unpaired zero i h = refl
-use-unpaired (suc zero) zero h = omega arith
-use-unpaired (suc zero) (suc i) h = omega arith
-use-unpaired (suc (suc p)) i h = omega arith
+use-unpaired (suc zero) zero h = absurd (true≢false h)
+use-unpaired (suc zero) (suc i) h = absurd (true≢false h)
+use-unpaired (suc (suc p)) i h = absurd (true≢false h)
 
-use-twice : (p i : ℕ) → use_of p i % 2 ≡ 1 → 1 < p + i
+use-twice : (p i : ℕ) → is_repeated (use_of p i) ≡ true → 1 < p + i
 unfolding use_of
-use-twice zero zero h = omega arith
-use-twice zero (suc zero) h = omega arith
+use-twice zero zero h = absurd (false≢true h)
+use-twice zero (suc zero) h = absurd (false≢true h)
 use-twice zero (suc (suc i)) h = omega arith
-use-twice (suc zero) zero h = omega arith
+use-twice (suc zero) zero h = absurd (false≢true h)
 use-twice (suc zero) (suc i) h = omega arith
 use-twice (suc (suc p)) i h = omega arith
 
-use-once : (p i : ℕ) → (use_of p i % 2 ≡ 1 → ⊥) → p + i ≤ 1
+use-once : (p i : ℕ) → is_repeated (use_of p i) ≡ false → p + i ≤ 1
 unfolding use_of
 use-once zero zero h = omega arith
 use-once zero (suc zero) h = omega arith
-use-once zero (suc (suc i)) h = absurd (h refl)
+use-once zero (suc (suc i)) h = absurd (true≢false h)
 use-once (suc zero) zero h = omega arith
-use-once (suc zero) (suc i) h = absurd (h refl)
-use-once (suc (suc p)) i h = absurd (h refl)
+use-once (suc zero) (suc i) h = absurd (true≢false h)
+use-once (suc (suc p)) i h = absurd (true≢false h)
 
 -- ---- the array
 
 -- one cell changed
-told : (f g : Element → ℕ) (used : List ℕ) (b v : ℕ) → b < length used → v ≡ g b → ((e : Element) → (b ≡ e → ⊥) → g e ≡ f e)
-    → (e : ℕ) → get_or used e 0 ≡ f e → get_or (set used b v) e 0 ≡ g e
+told : (f g : Element → Use) (used : List Use) (b : ℕ) (v : Use) → b < length used → v ≡ g b → ((e : Element) → (b ≡ e → ⊥) → g e ≡ f e)
+    → (e : ℕ) → get_or used e Unused ≡ f e → get_or (set used b v) e Unused ≡ g e
 told f g used b v h here other e is =
-    ⊎_elim (λ (q : b ≡ e). rw (← q) (get_or-set_same used b v 0 h ∙ here))
-    (λ (q : b ≡ e → ⊥). get_or-set_other used b e v 0 (λ (r : e ≡ b). q (sym r)) ∙ is ∙ sym (other e q)) (same-or-other b e)
+    ⊎_elim (λ (q : b ≡ e). rw (← q) (get_or-set_same used b v Unused h ∙ here))
+    (λ (q : b ≡ e → ⊥). get_or-set_other used b e v Unused (λ (r : e ≡ b). q (sym r)) ∙ is ∙ sym (other e q)) (same-or-other b e)
 
-abbrev use_in : Plan → Element → ℕ
+abbrev use_in : Plan → Element → Use
 use_in p e = use_of (pair_uses p e) (import_uses p e)
 
-module _ (p : Plan) (used : List ℕ) (c : Counted p used) where
+module _ (p : Plan) (used : List Use) (c : Counted p used) where
   pub counted-restriction : (a : Element) → Counted (plus_restriction p a) used
   unfolding pair_uses import_uses
   counted-restriction a = record { size = c.size; is = c.is }
 
-  pub counted-pair : (a b : Element) → b < element_limit → Counted (plus_pair p a b) (set used b (used_again 4 (get_or used b 0)))
+  pub counted-pair : (a b : Element) → b < element_limit → Counted (plus_pair p a b) (set used b (paired_again (get_or used b Unused)))
   unfolding import_uses
   counted-pair a b h =
       record {
@@ -154,7 +147,7 @@ module _ (p : Plan) (used : List ℕ) (c : Counted p used) where
             (λ x q. rw (pair-other p a b x q)) e (c.is e k);
       }
 
-  pub counted-import : (b : Element) (at : ℕ) → b < element_limit → pair_uses p b ≡ 0 → Counted (plus_import p b at) (set used b (used_again 2 (get_or used b 0)))
+  pub counted-import : (b : Element) (at : ℕ) → b < element_limit → pair_uses p b ≡ 0 → Counted (plus_import p b at) (set used b (imported_again (get_or used b Unused)))
   unfolding pair_uses
   counted-import b at h none =
       record {
@@ -167,16 +160,16 @@ module _ (p : Plan) (used : List ℕ) (c : Counted p used) where
   -- ---- what a cell tells
 
   module _ (e : Element) (h : e < element_limit) where
-    pub counted-paired : 4 ≤ get_or used e 0 → pair_uses p e ≡ 0 → ⊥
+    pub counted-paired : is_paired (get_or used e Unused) ≡ true → pair_uses p e ≡ 0 → ⊥
     counted-paired k = use-paired (pair_uses p e) (import_uses p e) (rw (c.is e h) at k)
 
-    pub counted-unpaired : get_or used e 0 < 4 → pair_uses p e ≡ 0
+    pub counted-unpaired : is_paired (get_or used e Unused) ≡ false → pair_uses p e ≡ 0
     counted-unpaired k = use-unpaired (pair_uses p e) (import_uses p e) (rw (c.is e h) at k)
 
-    pub counted-twice : get_or used e 0 % 2 ≡ 1 → 1 < uses p e
+    pub counted-twice : is_repeated (get_or used e Unused) ≡ true → 1 < uses p e
     unfolding uses pair_uses import_uses
     counted-twice k = use-twice (pair_uses p e) (import_uses p e) (rw (c.is e h) at k)
 
-    pub counted-once : (get_or used e 0 % 2 ≡ 1 → ⊥) → uses p e ≤ 1
+    pub counted-once : is_repeated (get_or used e Unused) ≡ false → uses p e ≤ 1
     unfolding uses pair_uses import_uses
     counted-once k = use-once (pair_uses p e) (import_uses p e) (rw (c.is e h) at k)

@@ -1,4 +1,5 @@
 -- The ways of one step of the walk on the scratch slice, and steps one after the other. Assumes nothing.
+use mathlib.Core.Bool.{true, false}
 use mathlib.Core.List.{List}
 use mathlib.Core.Logic.{⊎_elim}
 use mathlib.Core.Path.{◌≡◌, refl, sym, ap, ◌∙◌}
@@ -11,8 +12,10 @@ use Rattle.tables.specs.Records.{Element}
 use Rattle.merge_rules.specs.Pairing.{Action, merge_equal, merge_unequal, a_only, Plan, Walked}
 use Rattle.merge_rules.proofs.Laws.Cases.{same-or-other}
 use Rattle.pairing.specs.declared.plan.Sides.{Sides}
+use Rattle.pairing.specs.declared.plan.Use.{Use}
+use Rattle.pairing.specs.declared.plan.Use.TheVariants.{Unused}
 use Rattle.pairing.specs.Plans.{row_element, row_value, plan_up_to}
-use Rattle.pairing.specs.Walks.{first_children, second_children, next_action, used_again, Counted, Planning, WorkRoom, Ranged, Walks, StepPasses}
+use Rattle.pairing.specs.Walks.{first_children, second_children, next_action, imported_again, paired_again, is_paired, Counted, Planning, WorkRoom, Ranged, Walks, StepPasses}
 use Rattle.pairing.proofs.Laws.Planning.{planning-equal, planning-unequal, planning-first, planning-skip, planning-import}
 use Rattle.pairing.proofs.Laws.Rows.{row-restriction, row-pair, row-import, CellsKept, kept-one, kept-two, two-first, two-second, plan-kept, elements-kept, length-first, get_d-first, length-second, get_d-second, behind-kept, second-behind}
 use Rattle.pairing.proofs.Laws.Uses.{counted-restriction, counted-pair, counted-import, counted-paired, counted-unpaired}
@@ -24,12 +27,12 @@ Asked = (Element → Element → Action) → ℕ → Type 0
 -- ---- none, and one after the other
 
 module _ (s : Sides) (P : Asked) (Q : ℕ → Type 0) (w : List ℕ) (i j k : ℕ) where
-  pub walks-none : (used : List ℕ) → WorkRoom s w i j k → Counted (plan_up_to s.rows i k w) used → Walks s P Q w i j k w used i j k
+  pub walks-none : (used : List Use) → WorkRoom s w i j k → Counted (plan_up_to s.rows i k w) used → Walks s P Q w i j k w used i j k
   walks-none used room counted =
       record { room = room; counted = counted; behind = refl; ranged = λ n q r. r; plans = λ act end whole q p. p }
 
   -- as far as one, and on from there
-  pub walks-then : (P' : Asked) (Q' : ℕ → Type 0) (w₁ used₁ : List ℕ) (i₁ j₁ k₁ : ℕ) (w₂ used₂ : List ℕ) (i₂ j₂ k₂ : ℕ)
+  pub walks-then : (P' : Asked) (Q' : ℕ → Type 0) (w₁ : List ℕ) (used₁ : List Use) (i₁ j₁ k₁ : ℕ) (w₂ : List ℕ) (used₂ : List Use) (i₂ j₂ k₂ : ℕ)
       → Walks s P Q w i j k w₁ used₁ i₁ j₁ k₁ → Walks s P' Q' w₁ i₁ j₁ k₁ w₂ used₂ i₂ j₂ k₂
       → ((act : Element → Element → Action) (end : ℕ) → P act end → P' act end) → ((n : ℕ) → Q n → Q' n) → Walks s P Q w i j k w₂ used₂ i₂ j₂ k₂
   walks-then P' Q' w₁ used₁ i₁ j₁ k₁ w₂ used₂ i₂ j₂ k₂ a b p q =
@@ -48,7 +51,7 @@ moved act end whole i j e f g w = rw (e, f, g) w
 
 -- ---- the ways
 
-module _ (s : Sides) (w used : List ℕ) (i j k : ℕ) (room : WorkRoom s w i j k) (counted : Counted (plan_up_to s.rows i k w) used) where
+module _ (s : Sides) (w : List ℕ) (used : List Use) (i j k : ℕ) (room : WorkRoom s w i j k) (counted : Counted (plan_up_to s.rows i k w) used) where
   -- the cursor child of B
   pub cursor-second : s.start + j < s.end → get_or (second_children s w) j 0 ≡ get_or w (s.start + j) 0
   cursor-second h = get_d-second s w room.within j h
@@ -108,7 +111,7 @@ module _ (s : Sides) (w used : List ℕ) (i j k : ℕ) (room : WorkRoom s w i j 
           unpaired = λ m l n. pair-kept.outside (2 * m + 1) (λ p q. omega arith) ∙ room.unpaired m (omega arith) n;
         }
 
-    pair-counted : Counted (plan_up_to s.rows (i + 1) k pairing) (set used e (used_again 4 (get_or used e 0)))
+    pair-counted : Counted (plan_up_to s.rows (i + 1) k pairing) (set used e (paired_again (get_or used e Unused)))
     pair-counted = rw pair-plan (counted-pair (plan_up_to s.rows i k w) used counted (row_element w i) e small)
 
     pair-ranged : (n : ℕ) → e < n → Ranged n s w k → Ranged n s pairing k
@@ -134,7 +137,7 @@ module _ (s : Sides) (w used : List ℕ) (i j k : ℕ) (room : WorkRoom s w i j 
         → ((act : Element → Element → Action) (end : ℕ) (whole : Walked) → P act end
         → Planning act end whole (plan_up_to s.rows i k w) (first_children s w) (second_children s w) i j
         → Planning act end whole (plus_pair (plan_up_to s.rows i k w) (get_or (first_children s w) i 0) e) (first_children s w) (second_children s w) (i + 1) j')
-        → Walks s P Q w i j k pairing (set used e (used_again 4 (get_or used e 0))) (i + 1) j' k
+        → Walks s P Q w i j k pairing (set used e (paired_again (get_or used e Unused))) (i + 1) j' k
     pair-walks P Q j' a b below plans =
         record {
           room = pair-room j' a b;
@@ -149,7 +152,7 @@ module _ (s : Sides) (w used : List ℕ) (i j k : ℕ) (room : WorkRoom s w i j 
   -- both cursors pass
   pub walks-equal : i < s.rows → s.start + j < s.end → (e : ℕ) → e ≡ get_or w (s.start + j) 0
       → Walks s (λ (act : Element → Element → Action) (end : ℕ). merge_equal ≡ next_action act (first_children s w) (second_children s w) i j) (λ (n : ℕ). Unit {0})
-      w i j k (set w (2 * i + 1) (e + 1)) (set used e (used_again 4 (get_or used e 0))) (i + 1) (j + 1) k
+      w i j k (set w (2 * i + 1) (e + 1)) (set used e (paired_again (get_or used e Unused))) (i + 1) (j + 1) k
   walks-equal h l e q =
       let b : get_or (second_children s w) j 0 ≡ e = cursor-second l ∙ sym q in
       pair-walks e h (omega (arith, cursor-small l)) _ _ (j + 1) (omega arith) (omega arith) (λ n u r. omega (arith, cursor-ranged n l r))
@@ -160,7 +163,7 @@ module _ (s : Sides) (w used : List ℕ) (i j k : ℕ) (room : WorkRoom s w i j 
   -- A with a B sibling
   pub walks-unequal : i < s.rows → (e : ℕ) → e < element_limit
       → Walks s (λ (act : Element → Element → Action) (end : ℕ). merge_unequal e ≡ next_action act (first_children s w) (second_children s w) i j) (λ (n : ℕ). e < n)
-      w i j k (set w (2 * i + 1) (e + 1)) (set used e (used_again 4 (get_or used e 0))) (i + 1) j k
+      w i j k (set w (2 * i + 1) (e + 1)) (set used e (paired_again (get_or used e Unused))) (i + 1) j k
   walks-unequal h e small =
       pair-walks e h small _ _ j (omega arith) room.second (λ n u r. u)
       (λ act end whole n p.
@@ -201,7 +204,7 @@ module _ (s : Sides) (w used : List ℕ) (i j k : ℕ) (room : WorkRoom s w i j 
     PassesHere act end = StepPasses act end (first_children s w) (second_children s w) i j position
 
     -- already paired
-    pub walks_skip : 4 ≤ get_or used (get_or w (s.start + j) 0) 0 → Walks s PassesHere (λ (n : ℕ). position ≤ item_limit) w i j k w used i (j + 1) k
+    pub walks_skip : is_paired (get_or used (get_or w (s.start + j) 0) Unused) ≡ true → Walks s PassesHere (λ (n : ℕ). position ≤ item_limit) w i j k w used i (j + 1) k
     walks_skip n =
         let b = cursor-second l in
         let u = counted-paired (plan_up_to s.rows i k w) used counted (get_or w (s.start + j) 0) (cursor-small l) n in
@@ -293,8 +296,8 @@ module _ (s : Sides) (w used : List ℕ) (i j k : ℕ) (room : WorkRoom s w i j 
             second = rw import-second r.second;
           }
 
-      pub walks-import : get_or used e 0 < 4
-          → Walks s PassesHere (λ (n : ℕ). position ≤ item_limit) w i j k importing (set used e (used_again 2 (get_or used e 0))) i (j + 1) (k + 1)
+      pub walks-import : is_paired (get_or used e Unused) ≡ false
+          → Walks s PassesHere (λ (n : ℕ). position ≤ item_limit) w i j k importing (set used e (imported_again (get_or used e Unused))) i (j + 1) (k + 1)
       walks-import z =
           let b : get_or (second_children s w) j 0 ≡ e = cursor-second l ∙ sym q in
           let small : e < element_limit = omega (arith, cursor-small l) in

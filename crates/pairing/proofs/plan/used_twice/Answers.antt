@@ -1,4 +1,4 @@
-use mathlib.Core.Path.{refl}
+use mathlib.Core.Path.{refl, sym, ◌∙◌}
 use lib.ListN.{get_or}
 use Rattle.merge_rules.specs.Pairing.{first_used_twice}
 use Rattle.pairing.specs.Plans.{plan_in}
@@ -11,12 +11,12 @@ pub loop-b-init : goal.loop-b-init
 unfolding first_used_twice
 loop-b-init c = refl
 
-pub returns-then-uses-e-eq1-clause-work_value : goal.returns-then-uses-e-eq1-clause-work_value
-returns-then-uses-e-eq1-clause-work_value c =
+pub returns-then-is_repeated-clause-work_value : goal.returns-then-is_repeated-clause-work_value
+returns-then-is_repeated-clause-work_value c =
     let bs = second_children c.args.s c.args.work.now in
     let p = plan_in c.args.s.rows c.args.new c.args.work.now in
     let small = c.requires.work_room.small c.loop-b.b-index c.loop-b-test.true in
-    let twice = counted-twice p c.args.uses.now c.requires.counted (get_or bs c.loop-b.b-index 0) small c.if-uses-e-eq1.true in
+    let twice = counted-twice p c.args.uses.now c.requires.counted (get_or bs c.loop-b.b-index 0) small (sym c.is_repeated.ensures ∙ c.if-is_repeated.true) in
     twice-stop bs p c.loop-b.b-index c.loop-b-test.true twice _ c.loop-b.invariant
 
 pub loop-b-preserved : goal.loop-b-preserved
@@ -24,7 +24,7 @@ loop-b-preserved c =
     let bs = second_children c.args.s c.args.work.now in
     let p = plan_in c.args.s.rows c.args.new c.args.work.now in
     let small = c.requires.work_room.small c.loop-b.b-index c.loop-b-test.true in
-    let once = counted-once p c.args.uses.now c.requires.counted (get_or bs c.loop-b.b-index 0) small c.if-uses-e-eq1.false in
+    let once = counted-once p c.args.uses.now c.requires.counted (get_or bs c.loop-b.b-index 0) small (sym c.is_repeated.ensures ∙ c.if-is_repeated.false) in
     twice-more bs p c.loop-b.b-index c.loop-b-test.true once _ c.loop-b.invariant
 
 pub returns-clause-work_value : goal.returns-clause-work_value
