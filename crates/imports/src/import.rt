@@ -19,12 +19,12 @@ ghost use Rattle.table_test.specs.Fits.{ModelOver, LogFits, KeepsState};
 use insert_range::range::{Unplaced, calc_element_insert_range, takes_any_place};
 use merge_log::log::Run;
 use merge_log::refusals::{Halt, Refusal};
-use schema_calls::calls::{Found, find_sub_element};
+use schema_calls::calls::find_sub_element;
 use tables::elements::{element_name, element_type};
 use tables::limits::{ITEM_LIMIT, LOG_LIMIT};
 use tables::log::{Entry, log_length, push_entry};
 use tables::model::{
-    Item, Parent, insert_items, item_total, list_length, parent_of, put_item, set_of, set_parent,
+    Item, insert_items, item_total, list_length, parent_of, put_item, set_of, set_parent,
     set_set,
 };
 use tables::numbers::{Element, FileNumber};
@@ -44,7 +44,7 @@ fn enter(model: &mut [u64], log: &mut [u64], f: FileNumber, p: Element, e: Eleme
     let set = set_of(model, e);
     push_entry(log, Entry::Import(e, p, parent, set));
     put_item(model, p, at, Item::Child(e));
-    set_parent(model, e, Parent::Of(p));
+    set_parent(model, e, Some(p));
     set_set(model, e, set.with(f));
 }
 
@@ -149,7 +149,7 @@ fn import_into(
     let p = r.p;
     let n = element_name(elements, e);
     let t = element_type(elements, p);
-    let Found::At(_) = find_sub_element(schema, t, n, 1u64 << v) else {
+    let Some(_) = find_sub_element(schema, t, n, 1u64 << v) else {
         return Err(Halt::Refused(Refusal::NotInVersion(p, n)));
     };
     let entries = log_length(log);

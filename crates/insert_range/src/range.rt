@@ -5,18 +5,18 @@ ghost use Rattle.tables.specs.Limits.{item_limit, version_limit};
 ghost use Rattle.tables.specs.Records.{list_of};
 ghost use Rattle.tables.specs.ElementsTable.{elements_of, GoodElements};
 ghost use Rattle.tables.specs.ModelTable.{model_of, item_is, ItemBelow};
-ghost use Rattle.tables.specs.SchemaTable.{schema_of, GoodSchema, mode_from, mult_from, no_sub_element};
+ghost use Rattle.tables.specs.SchemaTable.{schema_of, GoodSchema, mode_from, mult_is, no_sub_element};
 ghost use Rattle.state_test.specs.StateTest.{fixed_in};
 ghost use Rattle.merge_rules.specs.Range.{equal_path, move_by, read_content};
 ghost use Rattle.table_test.specs.Fits.{ModelOver};
 ghost use Rattle.insert_range.specs.Range.{ordering_is, move_is, move_of, bounds_after, Compares, name_or, Moves, range_is, Ranges, AnyPlace};
 
-use schema_calls::calls::{Found, find_common_group, find_sub_element, row_of_name};
+use schema_calls::calls::{find_common_group, find_sub_element, row_of_name};
 use tables::elements::{element_name, element_type};
 use tables::model::{Item, item_at, list_length};
 use tables::numbers::{Element, Name, TypeNumber};
-use tables::path::Order;
-use tables::schema::{row_mult, row_name, row_path, type_mode};
+use std::cmp::Ordering;
+use tables::schema::{Mult, row_mult, row_name, row_path, type_mode};
 
 // The first and last place, of a range or of the items so far.
 #[derive(Clone, Copy)]
@@ -41,13 +41,13 @@ pub enum Move {
 }
 
 // The new element and the item's have one path.
-fn equal_path(mult: u64, first: usize, index: usize) -> Move
+fn equal_path(mult: Mult, first: usize, index: usize) -> Move
     requires { index < item_limit }
-    ensures { move_is result ≡ equal_path (mult_from mult) first index }
+    ensures { move_is result ≡ equal_path (mult_is mult) first index }
 {
     match mult {
-        0 | 1 => Move::Clash,
-        _ => Move::To(Bounds {
+        Mult::AtMostOne | Mult::One => Move::Clash,
+        Mult::Any => Move::To(Bounds {
             first,
             last: index + 1,
         }),
@@ -55,24 +55,24 @@ fn equal_path(mult: u64, first: usize, index: usize) -> Move
 }
 
 // By the common group's mode (0 sequence, 1 choice, 2 bag, 3 mixed), and the new path's order against the item's.
-fn move_by(mode: u64, order: Order, mult: u64, first: usize, index: usize) -> Move
+fn move_by(mode: u64, order: Ordering, mult: Mult, first: usize, index: usize) -> Move
     requires { index < item_limit }
-    ensures { move_is result ≡ move_by (mode_from mode) (ordering_is order) (mult_from mult) first index }
+    ensures { move_is result ≡ move_by (mode_from mode) (ordering_is order) (mult_is mult) first index }
 {
     let next = index + 1;
     match mode {
         0 => match order {
-            Order::Less => Move::Stop,
-            Order::Equal => equal_path(mult, first, index),
-            Order::Greater => Move::To(Bounds {
+            Ordering::Less => Move::Stop,
+            Ordering::Equal => equal_path(mult, first, index),
+            Ordering::Greater => Move::To(Bounds {
                 first: next,
                 last: next,
             }),
         },
         1 => match order {
-            Order::Less => Move::Clash,
-            Order::Equal => equal_path(mult, first, index),
-            Order::Greater => Move::Clash,
+            Ordering::Less => Move::Clash,
+            Ordering::Equal => equal_path(mult, first, index),
+            Ordering::Greater => Move::Clash,
         },
         _ => Move::To(Bounds { first, last: next }),
     }
@@ -82,7 +82,7 @@ fn move_by(mode: u64, order: Order, mult: u64, first: usize, index: usize) -> Mo
 #[derive(Clone, Copy)]
 pub struct Against {
     pub mode: u64,
-    pub order: Order,
+    pub order: Ordering,
 }
 
 fn compare_name(schema: &[u64], t: TypeNumber, new: usize, n: Name) -> Option<Against>
@@ -91,7 +91,7 @@ fn compare_name(schema: &[u64], t: TypeNumber, new: usize, n: Name) -> Option<Ag
     requires in_bounds { new < length (schema_of schema.now).sub_elements }
     ensures { Compares schema.now t.0 new n.0 result }
 {
-    let Found::At(old) = row_of_name(schema, t, n) else {
+    let Some(old) = row_of_name(schema, t, n) else {
         return None;
     };
     let path = row_path(schema, new);
@@ -114,7 +114,7 @@ fn name_or(elements: &[u64], a: Item, last: Name) -> Name
 }
 
 // The move of an item; a text moves the last place.
-fn move_of(a: Item, against: Option<Against>, mult: u64, index: usize, bounds: Bounds) -> Move
+fn move_of(a: Item, against: Option<Against>, mult: Mult, index: usize, bounds: Bounds) -> Move
     requires { index < item_limit }
     ensures { move_is result ≡ move_of (item_is a) against mult index bounds }
 {
@@ -146,7 +146,7 @@ fn bounds_after(m: Move, bounds: Bounds) -> Bounds
 fn read_item(
     a: Item,
     against: Option<Against>,
-    mult: u64,
+    mult: Mult,
     index: usize,
     bounds: &mut Bounds,
 ) -> Move
@@ -166,7 +166,7 @@ pub struct Moved {
 }
 
 // The bounds, lent to the step for one item.
-fn lend_bounds(a: Item, against: Option<Against>, mult: u64, index: usize, bounds: Bounds) -> Moved
+fn lend_bounds(a: Item, against: Option<Against>, mult: Mult, index: usize, bounds: Bounds) -> Moved
     requires { index < item_limit }
     ensures { Moves (item_is a) against mult index bounds result.bounds result.answer }
 {
@@ -235,7 +235,7 @@ pub fn calc_element_insert_range(
     ensures { Ranges schema.now elements.now model.now p.0 n.0 v result }
 {
     let t = element_type(elements, p);
-    let Found::At(new) = find_sub_element(schema, t, n, 1u64 << v) else {
+    let Some(new) = find_sub_element(schema, t, n, 1u64 << v) else {
         return Err(Unplaced::NoRow);
     };
     let mode = type_mode(schema, t);

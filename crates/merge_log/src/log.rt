@@ -16,7 +16,6 @@ ghost use Rattle.merge_log.specs.Runs.{without_run, RunIn, StandsBefore, OnceIf,
 ghost use Rattle.table_test.specs.Fits.{KeepsModel, KeepsState};
 
 use crate::refusals::{Halt, Refusal};
-use schema_calls::calls::Found;
 use tables::file_set::FileSet;
 use tables::limits::LOG_LIMIT;
 use tables::log::{Entry, entry_at, log_length, pop_entry, push_entry};
@@ -68,7 +67,7 @@ fn is_child(a: Item, e: Element) -> bool
 }
 
 // The first place of e in the list of p.
-pub fn place_of(model: &[u64], p: Element, e: Element) -> Found
+pub fn place_of(model: &[u64], p: Element, e: Element) -> Option<usize>
     requires good_model { GoodModel model.now }
     requires p_bound { p.0 < count_of (model_of model.now) }
     ensures { FirstPlace e.0 (list_of (model_of model.now) p.0) result }
@@ -77,14 +76,14 @@ pub fn place_of(model: &[u64], p: Element, e: Element) -> Found
     for i in 0..n {
         let a = item_at(model, p, i);
         if is_child(a, e) {
-            return Found::At(i);
+            return Some(i);
         }
     }
-    Found::Missing
+    None
 }
 
 // The last place of e in the list of p, the first one too where the list has no element twice.
-fn last_place_of(model: &[u64], p: Element, e: Element) -> Found
+fn last_place_of(model: &[u64], p: Element, e: Element) -> Option<usize>
     requires good_model { GoodModel model.now }
     requires p_bound { p.0 < count_of (model_of model.now) }
     requires p_value { once_in (list_of (model_of model.now) p.0) ≡ true }
@@ -94,14 +93,14 @@ fn last_place_of(model: &[u64], p: Element, e: Element) -> Found
     for last in (0..n).rev() {
         let a = item_at(model, p, last);
         if is_child(a, e) {
-            return Found::At(last);
+            return Some(last);
         }
     }
-    Found::Missing
+    None
 }
 
 // The first place of e in the list of p: from the back where no list has an element twice, since what was imported last mostly stands there.
-fn find_place(model: &[u64], p: Element, e: Element, once: bool) -> Found
+fn find_place(model: &[u64], p: Element, e: Element, once: bool) -> Option<usize>
     requires good_model { GoodModel model.now }
     requires p_bound { p.0 < count_of (model_of model.now) }
     requires once_if { OnceIf once (model_of model.now) }
@@ -167,7 +166,7 @@ fn take_out(model: &mut [u64], r: Run, e: Element, p: Element, once: bool) -> Ru
     }
     remove_run(model, r);
     let found = find_place(model, p, e, once);
-    let Found::At(i) = found else {
+    let Some(i) = found else {
         return Run { p, i: 0, k: 0 };
     };
     Run { p, i, k: 1 }

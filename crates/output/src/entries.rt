@@ -11,21 +11,20 @@ ghost use Rattle.printing.specs.Buffers.{buffer_is, Appends};
 use printing::buffer::{Written, append_bytes, append_number};
 use tables::file_set::FileSet;
 use tables::log::{Entry, entry_at, log_length};
-use tables::model::Parent;
 use tables::numbers::Element;
 
 // An old parent with its comma, `-` for none.
-fn append_parent(out: &mut [u8], w: Written, p: Parent) -> Written
+fn append_parent(out: &mut [u8], w: Written, p: Option<Element>) -> Written
     ensures { Appends (buffer_is w out.old) (or_dash (parent_is p) ++ bytes ",") (buffer_is result out.new) }
 {
     match p {
-        Parent::Of(e) => append_number(out, w, e.0 as u64, 10, b','),
-        Parent::Missing => append_bytes(out, w, b"-,"),
+        Some(e) => append_number(out, w, e.0 as u64, 10, b','),
+        None => append_bytes(out, w, b"-,"),
     }
 }
 
 // An old parent and an old set.
-fn append_old(out: &mut [u8], w: Written, p: Parent, s: FileSet) -> Written
+fn append_old(out: &mut [u8], w: Written, p: Option<Element>, s: FileSet) -> Written
     ensures { Appends (buffer_is w out.old) (line_of (or_dash (parent_is p) ∷ hexadecimal_of (set_is s) ∷ [])) (buffer_is result out.new) }
 {
     let k = append_parent(out, w, p);
@@ -37,7 +36,7 @@ fn append_import(
     w: Written,
     e: Element,
     p: Element,
-    parent: Parent,
+    parent: Option<Element>,
     set: FileSet,
 ) -> Written
     ensures { Appends (buffer_is w out.old) (line_of (bytes "import" ∷ decimal_of e.0 ∷ decimal_of p.0 ∷ or_dash (parent_is parent) ∷ hexadecimal_of (set_is set) ∷ [])) (buffer_is result out.new) }

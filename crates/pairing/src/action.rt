@@ -14,10 +14,10 @@ ghost use Rattle.pairing.specs.Keys.{KeyMarks};
 
 use crate::keys::{is_identifiable, key_of, sole_text, stored_text};
 use crate::sibling::{same_key, sibling};
-use schema_calls::calls::{Found, row_of_name};
+use schema_calls::calls::row_of_name;
 use tables::elements::element_name;
 use tables::numbers::{Element, Name, TypeNumber};
-use tables::path::{Order, Path};
+use tables::path::Path;
 use tables::schema::row_path;
 use tables::text::same_text;
 
@@ -37,8 +37,8 @@ fn path_of(schema: &[u64], t: TypeNumber, n: Name) -> Path
 {
     let row = row_of_name(schema, t, n);
     match row {
-        Found::At(i) => row_path(schema, i),
-        Found::Missing => Path(0, 0, 0, 0),
+        Some(i) => row_path(schema, i),
+        None => Path(0, 0, 0, 0),
     }
 }
 
@@ -60,9 +60,9 @@ fn action_by_path(
     let q = path_of(schema, t, element_name(elements, b));
     let o = p.order(q);
     match o {
-        Order::Less => Action::AOnly,
-        Order::Equal => Action::BOnly,
-        Order::Greater => Action::BOnly,
+        Ordering::Less => Action::AOnly,
+        Ordering::Equal => Action::BOnly,
+        Ordering::Greater => Action::BOnly,
     }
 }
 
@@ -83,13 +83,13 @@ fn same_element_text(
     let first = sole_text(deck, schema, elements, model, a);
     let second = sole_text(deck, schema, elements, model, b);
     match first {
-        Found::At(t) => match second {
-            Found::At(u) => same_text(stored_text(elements, t), stored_text(elements, u), deck),
-            Found::Missing => false,
+        Some(t) => match second {
+            Some(u) => same_text(stored_text(elements, t), stored_text(elements, u), deck),
+            None => false,
         },
-        Found::Missing => match second {
-            Found::At(_) => false,
-            Found::Missing => true,
+        None => match second {
+            Some(_) => false,
+            None => true,
         },
     }
 }

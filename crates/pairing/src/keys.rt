@@ -10,8 +10,7 @@ ghost use Rattle.merge_rules.specs.Pairing.{sole_text, string_of, sole_string, i
 ghost use Rattle.table_test.specs.Fits.{GoodFixed, ModelOver};
 ghost use Rattle.pairing.specs.Keys.{Keys, key_by, FindsChild, span_of};
 
-use schema_calls::calls::Found;
-use tables::elements::{element_name, element_type, text_kind, text_value};
+use tables::elements::{element_name, element_type, text_at};
 use tables::model::{Item, item_at, list_length};
 use tables::numbers::{Element, Name};
 use tables::schema::type_named;
@@ -27,23 +26,22 @@ pub fn stored_text(elements: &[u64], t: usize) -> Text
     requires t_in_bounds { t < length (elements_of elements.now).texts }
     ensures { result ≡ value_of (get_or (elements_of elements.now).texts t (enum_number 0)) }
 {
-    text_of(text_kind(elements, t), text_value(elements, t))
+    text_of(text_at(elements, t))
 }
 
 // The number of the text that is the element's only content item.
-pub fn sole_text(deck: &[u8], schema: &[u64], elements: &[u64], model: &[u64], e: Element) -> Found
+pub fn sole_text(deck: &[u8], schema: &[u64], elements: &[u64], model: &[u64], e: Element) -> Option<usize>
     requires good_fixed { GoodFixed deck.now schema.now elements.now }
     requires model_over { ModelOver elements.now model.now }
     requires e_in_bounds { e.0 < length (elements_of elements.now).names }
     ensures { Finds (enum_number 0) (elements_of elements.now).texts result (sole_text (fixed_in deck.now schema.now elements.now) (list_of (model_of model.now) e.0)) }
 {
     if list_length(model, e) != 1 {
-        return Found::Missing;
+        return None;
     }
-    let a = item_at(model, e, 0);
-    match a {
-        Item::Child(_) => Found::Missing,
-        Item::Text(t) => Found::At(t),
+    match item_at(model, e, 0) {
+        Item::Child(_) => None,
+        Item::Text(t) => Some(t),
     }
 }
 
@@ -53,8 +51,7 @@ fn string_key(deck: &[u8], schema: &[u64], elements: &[u64], t: usize) -> Option
     requires t_in_bounds { t < length (elements_of elements.now).texts }
     ensures { Keys deck.now result (string_of (fixed_in deck.now schema.now elements.now) (text_of (fixed_in deck.now schema.now elements.now) t)) }
 {
-    let x = stored_text(elements, t);
-    match x {
+    match stored_text(elements, t) {
         Text::Str(p) => Some(p),
         _ => None,
     }
@@ -72,9 +69,7 @@ fn sole_string(
     requires e_in_bounds { e.0 < length (elements_of elements.now).names }
     ensures { Keys deck.now result (sole_string (fixed_in deck.now schema.now elements.now) (model_of model.now) e.0) }
 {
-    let Found::At(t) = sole_text(deck, schema, elements, model, e) else {
-        return None;
-    };
+    let t = sole_text(deck, schema, elements, model, e)?;
     string_key(deck, schema, elements, t)
 }
 

@@ -17,7 +17,7 @@ use insert_range::range::calc_element_insert_range;
 use merge_log::log::{extend, place_of, restrict, rollback_merge};
 use merge_log::refusals::{Halt, Refusal};
 use pairing::keys::{definition_child, is_identifiable};
-use schema_calls::calls::{Found, splittable_in};
+use schema_calls::calls::splittable_in;
 use tables::elements::{element_name, element_type};
 use tables::file_set::FileSet;
 use tables::model::set_of;
@@ -78,8 +78,8 @@ fn place_behind(model: &[u64], p: Element, a: Element) -> usize
 {
     let found = place_of(model, p, a);
     match found {
-        Found::At(i) => i + 1,
-        Found::Missing => 1,
+        Some(i) => i + 1,
+        None => 1,
     }
 }
 

@@ -3,7 +3,7 @@ use std::io;
 use tables::file_set::FileSet;
 use tables::limits::FILE_LIMIT;
 use tables::numbers::FileNumber;
-use tables::path::{Order, Path};
+use tables::path::Path;
 use tables::text;
 use tables::text::{Place, Text};
 
@@ -82,11 +82,11 @@ fn file_sets(rt: &impl Print) -> io::Result<()> {
 
 // ---- paths: 1.2.3, 1.2, 1.2.4.0 and the empty one, each part held as part + 1
 
-fn show_order(rt: &impl Print, o: Order) -> io::Result<()> {
+fn show_order(rt: &impl Print, o: Ordering) -> io::Result<()> {
     match o {
-        Order::Less => word(rt, b" less"),
-        Order::Equal => word(rt, b" equal"),
-        Order::Greater => word(rt, b" greater"),
+        Ordering::Less => word(rt, b" less"),
+        Ordering::Equal => word(rt, b" equal"),
+        Ordering::Greater => word(rt, b" greater"),
     }
 }
 

@@ -13,12 +13,14 @@ use Rattle.tables.specs.Paths.{path_order, order_of}
 use Rattle.tables.specs.Records.{SchemaPath, Mode, sequence, choice, bag, mixed, characters, Mult, Item, child, text, Fixed, SubElement, Model, type_row, name_of, type_of, list_of}
 use Rattle.tables.specs.ElementsTable.{elements_of}
 use Rattle.tables.specs.ModelTable.{model_of, ItemBelow}
-use Rattle.tables.specs.SchemaTable.{schema_of, mode_number, mode_from, mult_number, mult_from, no_sub_element}
-use Rattle.tables.specs.declared.path.Order.{Order}
-use Rattle.tables.specs.declared.path.Order.TheVariants.{Less, Equal, Greater}
+use Rattle.tables.specs.declared.schema.Mult as program_mult
+use Rattle.tables.specs.declared.schema.Mult.TheVariants.{AtMostOne, One, Any}
+use Rattle.tables.specs.SchemaTable.{schema_of, mode_number, mode_from, mult_is, no_sub_element}
+use Rattle.std.specs.declared.cmp.Ordering as program_order
+use Rattle.std.specs.declared.cmp.Ordering.TheVariants.{Less, Equal, Greater}
 use Rattle.tables.proofs.Laws.FileSets.{one_shifted}
 use Rattle.tables.proofs.Laws.ModelTable.{start-room, listed_below, item-below}
-use Rattle.tables.proofs.Laws.SchemaTable.{mode-back, mult-back}
+use Rattle.tables.proofs.Laws.SchemaTable.{mode-back}
 use Rattle.deck.specs.Schema.{find_sub_element, row_of_name, version_mask, find_common_group}
 use Rattle.state_test.specs.StateTest.{fixed_in}
 use Rattle.tables.proofs.Laws.Scans.{drop-next}
@@ -35,46 +37,37 @@ use Rattle.table_test.specs.Fits.{ModelOver}
 
 -- ---- a move, by numbers
 
-pub equal-clash : (mult first index : ℕ) → mult < 2 → clash ≡ equal_path (mult_from mult) first index
+pub equal-any : (first index : ℕ) → move first (index + 1) ≡ equal_path any first index
 unfolding equal_path
-equal-clash zero first index h = refl
-equal-clash (suc zero) first index h = refl
-equal-clash (suc (suc m)) first index h = absurd (omega arith)
+equal-any first index = rw (add-one index)
 
-pub equal-any : (mult first index : ℕ) → 2 ≤ mult → move first (index + 1) ≡ equal_path (mult_from mult) first index
-unfolding equal_path
-equal-any zero first index h = absurd (omega arith)
-equal-any (suc zero) first index h = absurd (omega arith)
-equal-any (suc (suc zero)) first index h = rw (add-one index)
-equal-any (suc (suc (suc m))) first index h = rw (add-one index)
-
-module _ (mode mult first index : ℕ) {order : Order} where
+module _ (mode : ℕ) (mult : program_mult.Mult) (first index : ℕ) {order : program_order.Ordering} where
   module _ (m : mode ≡ 0) where
-    pub sequence-less : order ≡ Less → stop ≡ move_by (mode_from mode) (ordering_is order) (mult_from mult) first index
+    pub sequence-less : order ≡ Less → stop ≡ move_by (mode_from mode) (ordering_is order) (mult_is mult) first index
     unfolding move_by
     sequence-less o = rw (m, o)
 
-    pub sequence-equal : order ≡ Equal → (r : step.Move) → move_is r ≡ equal_path (mult_from mult) first index
-        → move_is r ≡ move_by (mode_from mode) (ordering_is order) (mult_from mult) first index
+    pub sequence-equal : order ≡ Equal → (r : step.Move) → move_is r ≡ equal_path (mult_is mult) first index
+        → move_is r ≡ move_by (mode_from mode) (ordering_is order) (mult_is mult) first index
     unfolding move_by
     sequence-equal o r e = rw (m, o) e
 
     pub sequence-greater : order ≡ Greater
-        → move (index + 1) (index + 1) ≡ move_by (mode_from mode) (ordering_is order) (mult_from mult) first index
+        → move (index + 1) (index + 1) ≡ move_by (mode_from mode) (ordering_is order) (mult_is mult) first index
     unfolding move_by
     sequence-greater o = rw (m, o, add-one index)
 
   module _ (m : mode ≡ 1) where
-    pub choice-less : order ≡ Less → clash ≡ move_by (mode_from mode) (ordering_is order) (mult_from mult) first index
+    pub choice-less : order ≡ Less → clash ≡ move_by (mode_from mode) (ordering_is order) (mult_is mult) first index
     unfolding move_by
     choice-less o = rw (m, o)
 
-    pub choice-equal : order ≡ Equal → (r : step.Move) → move_is r ≡ equal_path (mult_from mult) first index
-        → move_is r ≡ move_by (mode_from mode) (ordering_is order) (mult_from mult) first index
+    pub choice-equal : order ≡ Equal → (r : step.Move) → move_is r ≡ equal_path (mult_is mult) first index
+        → move_is r ≡ move_by (mode_from mode) (ordering_is order) (mult_is mult) first index
     unfolding move_by
     choice-equal o r e = rw (m, o) e
 
-    pub choice-greater : order ≡ Greater → clash ≡ move_by (mode_from mode) (ordering_is order) (mult_from mult) first index
+    pub choice-greater : order ≡ Greater → clash ≡ move_by (mode_from mode) (ordering_is order) (mult_is mult) first index
     unfolding move_by
     choice-greater o = rw (m, o)
 
@@ -95,19 +88,19 @@ order-back Ordering.lt = refl
 order-back Ordering.eq = refl
 order-back Ordering.gt = refl
 
-move-back : (m : Mode) (o : Ordering) (k : Mult) (first index : ℕ) {mode mult : ℕ} {order : Order}
-    → mode ≡ mode_number m → order ≡ order_of o → mult ≡ mult_number k
-    → move_by (mode_from mode) (ordering_is order) (mult_from mult) first index ≡ move_by m o k first index
-move-back m o k first index hm ho hk = rw (hm, ho, hk, mode-back m, order-back o, mult-back k)
+move-back : (m : Mode) (o : Ordering) (k : Mult) (first index : ℕ) {mode : ℕ} {mult : program_mult.Mult} {order : program_order.Ordering}
+    → mode ≡ mode_number m → order ≡ order_of o → mult_is mult ≡ k
+    → move_by (mode_from mode) (ordering_is order) (mult_is mult) first index ≡ move_by m o k first index
+move-back m o k first index hm ho hk = rw (hm, ho, hk, mode-back m, order-back o)
 
 -- ---- one item, by how the elements of its name stand to the new one
 
-module _ (mult index : ℕ) (b : Bounds) (x : Option Against) {a : Item} where
+module _ (mult : program_mult.Mult) (index : ℕ) (b : Bounds) (x : Option Against) {a : Item} where
   pub child-missing : {e : ℕ} → a ≡ child e → x ≡ None → move b.first b.last ≡ move_of a x mult index b
   child-missing h k = rw (h, k)
 
   pub child-row : {e : ℕ} {y : Against} → a ≡ child e → x ≡ Some y → (r : step.Move)
-      → move_is r ≡ move_by (mode_from y.mode) (ordering_is y.order) (mult_from mult) b.first index → move_is r ≡ move_of a x mult index b
+      → move_is r ≡ move_by (mode_from y.mode) (ordering_is y.order) (mult_is mult) b.first index → move_is r ≡ move_of a x mult index b
   child-row h k r g = rw (h, k) g
 
   pub text-last : {t : ℕ} → a ≡ text t → move b.first (index + 1) ≡ move_of a x mult index b
@@ -125,7 +118,7 @@ module _ (schema : List ℕ) (t new n : ℕ) where
 
   pub compares-row : {old : SubElement} → row_of_name (schema_of schema) t n ≡ some old
       → {path other : SchemaPath} → path ≡ (get_or (schema_of schema).sub_elements new no_sub_element).path → other ≡ old.path
-      → {mode : ℕ} {order : Order} → mode ≡ mode_number (find_common_group (schema_of schema) t path other) → order ≡ order_of (path_order path other)
+      → {mode : ℕ} {order : program_order.Ordering} → mode ≡ mode_number (find_common_group (schema_of schema) t path other) → order ≡ order_of (path_order path other)
       → Compares schema t new n (Some (record { mode = mode; order = order }))
   unfolding move_at
   compares-row {old} h hp ho hm hr =
@@ -143,8 +136,8 @@ pub record ItemRead (x : Fixed) (p : ℕ) (new : SubElement) (l : List Item) (i 
   pub is : move_at x p new (get_or l i (child 0)) i b.first b.last ≡ move_is m
   pub moved : b' ≡ bounds_after m b
 
-module _ (deck schema elements : List ℕ) (p : ℕ) {t : ℕ} (ht : t ≡ type_of (fixed_in deck schema elements) p) (new : ℕ) {mult : ℕ}
-    (hm : mult ≡ mult_number (get_or (schema_of schema).sub_elements new no_sub_element).mult) {n : ℕ} {s : Option Against} (compares : Compares schema t new n s) (last : ℕ) where
+module _ (deck schema elements : List ℕ) (p : ℕ) {t : ℕ} (ht : t ≡ type_of (fixed_in deck schema elements) p) (new : ℕ) {mult : program_mult.Mult}
+    (hm : mult_is mult ≡ (get_or (schema_of schema).sub_elements new no_sub_element).mult) {n : ℕ} {s : Option Against} (compares : Compares schema t new n s) (last : ℕ) where
   item-moves : (a : Item) → n ≡ name_or elements last a → (index : ℕ) (b : Bounds)
       → move_of a s mult index b ≡ move_at (fixed_in deck schema elements) p (get_or (schema_of schema).sub_elements new no_sub_element) a index b.first b.last
   unfolding move_at

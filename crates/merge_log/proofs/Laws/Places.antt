@@ -10,8 +10,8 @@ use native.Mathlib.Omega.{arith}
 use lib.ListN.{length, get_or, drop, drop_of_length-le}
 use lib.Seq.{drop-cons}
 use Rattle.tables.specs.Records.{Element, Item, child, text}
-use Rattle.schema_calls.specs.declared.calls.Found.{Found}
-use Rattle.schema_calls.specs.declared.calls.Found.TheVariants.{At, Missing}
+use Rattle.std.specs.Prelude as program_option
+use Rattle.std.specs.Prelude.{Some, None}
 use Rattle.merge_rules.specs.Log.{first_place_of}
 use Rattle.merge_log.specs.Places.{is_child, FirstPlace}
 use Rattle.table_test.specs.ModelTest.{once_in}
@@ -59,12 +59,12 @@ module _ (e : Element) (l : List Item) where
       let d : drop i l ≡ a ∷ drop (i + 1) l = rw (add-one i, s) (drop-cons l i (child 0) h) in
       sym (next_place e a (drop (i + 1) l) i n) ∙ (rw d at inv)
 
-  pub search-found : (i : ℕ) (a : Item) → i < length l → a ≡ get_or l i (child 0) → is_child e a ≡ true → Searching i → FirstPlace e l (At i)
+  pub search-found : (i : ℕ) (a : Item) → i < length l → a ≡ get_or l i (child 0) → is_child e a ≡ true → Searching i → FirstPlace e l (Some i)
   search-found i a h s n inv =
       let d : drop i l ≡ a ∷ drop (suc i) l = rw s (drop-cons l i (child 0) h) in
       record { is = ap {B = Option ℕ} some (sym (add-zero i)) ∙ (rw (d, this_place e a (drop (suc i) l) n) at inv); within = h }
 
-  pub search-end : (i : ℕ) → length l ≤ i → Searching i → FirstPlace e l Missing
+  pub search-end : (i : ℕ) → length l ≤ i → Searching i → FirstPlace e l None
   unfolding first_place_of
   search-end i h inv = record { is = rw (drop_of_length-le l h) at inv; within = tt }
 
@@ -82,15 +82,15 @@ module _ (e : Element) (l : List Item) where
       let d : drop (i - 1) l ≡ a ∷ drop i l = rw s (drop-cons l (i - 1) (child 0) (omega arith) ∙ ap (λ (k : ℕ). get_or l (i - 1) (child 0) ∷ drop k l) z) in
       rw d (no_place_lem e a (drop i l) n none-behind)
 
-  pub back_found : (i : ℕ) (a : Item) → 0 < i → i ≤ length l → a ≡ get_or l (i - 1) (child 0) → is_child e a ≡ true → once_in l ≡ true → FirstPlace e l (At (i - 1))
+  pub back_found : (i : ℕ) (a : Item) → 0 < i → i ≤ length l → a ≡ get_or l (i - 1) (child 0) → is_child e a ≡ true → once_in l ≡ true → FirstPlace e l (Some (i - 1))
   back_found i a o h s n once =
       let low : i - 1 < length l = omega arith in
       record { is = sym (once-first e l (i - 1) once low (rw s at n)); within = low }
 
-  pub back_end : (i : ℕ) → i ≤ 0 → NoneFrom i → FirstPlace e l Missing
+  pub back_end : (i : ℕ) → i ≤ 0 → NoneFrom i → FirstPlace e l None
   back_end i h none-behind =
       let z : i ≡ 0 = omega arith in
       record { is = sym (rw z at none-behind); within = tt }
 
-pub place-within : (e : Element) (l : List Item) (i : ℕ) (r : Found) → FirstPlace e l r → r ≡ At i → i < length l
+pub place-within : (e : Element) (l : List Item) (i : ℕ) (r : program_option.Option ℕ) → FirstPlace e l r → r ≡ Some i → i < length l
 place-within e l i r f m = rw m at f.within

@@ -17,8 +17,8 @@ use Rattle.tables.proofs.Laws.ModelTable.{start-room, listed_below}
 use Rattle.table_test.specs.Fits.{KeepsModel}
 use Rattle.table_test.specs.ModelTest.{model_once}
 use Rattle.table_test.proofs.Laws.Fits.{fits-remove}
-use Rattle.schema_calls.specs.declared.calls.Found.{Found}
-use Rattle.schema_calls.specs.declared.calls.Found.TheVariants.{At, Missing}
+use Rattle.std.specs.Prelude as program_option
+use Rattle.std.specs.Prelude.{Some, None}
 use Rattle.merge_rules.specs.Log.{first_place_of, take_out}
 use Rattle.merge_log.specs.Places.{is_child, FirstPlace}
 use Rattle.merge_log.specs.Runs.{without_run, RunIn, StandsBefore, OnceIf, Leads}
@@ -99,8 +99,8 @@ module _ (xs : List ℕ) (r : Run) where
       pub once-left : OnceIf o (model_of ys)
       once-left t = rw h.is (once-items (model_of xs) r.p.0 r.i r.k (once t))
 
-      module _ (e p : Element) (q : Run) (at : q.p.0 ≡ p) (keeps : KeepsModel xs ys) (found : Found) (f : FirstPlace e (list_of (model_of ys) p) found) where
-        pub leads_one : (n : ℕ) → found ≡ At n → q.i ≡ n → q.k ≡ 1 → Leads (take_out e p) o r q xs ys
+      module _ (e p : Element) (q : Run) (at : q.p.0 ≡ p) (keeps : KeepsModel xs ys) (found : program_option.Option ℕ) (f : FirstPlace e (list_of (model_of ys) p) found) where
+        pub leads_one : (n : ℕ) → found ≡ Some n → q.i ≡ n → q.k ≡ 1 → Leads (take_out e p) o r q xs ys
         leads_one n m i k =
             let low = place-within e (list_of (model_of ys) p) n found f m in
             let first : first_place_of e (list_of (model_of ys) p) ≡ some n = sym (rw m at f.is) in
@@ -112,7 +112,7 @@ module _ (xs : List ℕ) (r : Run) where
               keeps = keeps;
             }
 
-        pub leads-none : found ≡ Missing → q.i ≡ 0 → q.k ≡ 0 → Leads (take_out e p) o r q xs ys
+        pub leads-none : found ≡ None → q.i ≡ 0 → q.k ≡ 0 → Leads (take_out e p) o r q xs ys
         unfolding take_out
         leads-none m i k =
             let first : first_place_of e (list_of (model_of ys) p) ≡ none = sym (rw m at f.is) in

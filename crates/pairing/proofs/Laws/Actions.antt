@@ -12,13 +12,12 @@ use Rattle.tables.specs.Records.{enum_number, SchemaPath, SubElement, Model, Fix
 use Rattle.tables.specs.SchemaTable.{no_sub_element}
 use Rattle.tables.specs.Texts.{same_values, value_of}
 use Rattle.tables.specs.declared.numbers.Element as numbers
-use Rattle.tables.specs.declared.path.Order.{Order}
-use Rattle.tables.specs.declared.path.Order.TheVariants.{Less, Equal, Greater}
+use Rattle.std.specs.declared.cmp.Ordering as program_order
+use Rattle.std.specs.declared.cmp.Ordering.TheVariants.{Less, Equal, Greater}
 use Rattle.tables.specs.declared.text.Text as code_text
 use Rattle.tables.proofs.Laws.Texts.{same-values}
 use Rattle.deck.specs.Schema.{row_of_name}
-use Rattle.schema_calls.specs.declared.calls.Found.{Found}
-use Rattle.schema_calls.specs.declared.calls.Found.TheVariants.{At as FoundAt, Missing as NotFound}
+use Rattle.std.specs.Prelude as program_option
 use Rattle.schema_calls.specs.Calls.{Finds}
 use Rattle.schema_calls.proofs.Laws.Scans.{found-at, found-missing}
 use Rattle.merge_rules.specs.Pairing.{sole_text, element_text, identifiable, item_name, definition, same_key, same_texts, Action, a_only, b_only, sibling, calc_identifiables_merge, calc_element_merge, path_of, action_by_path, action_of}
@@ -40,16 +39,16 @@ path-by-row : (x : Fixed) (t n : ℕ) → path_of x t n ≡ path_in (row_of_name
 unfolding path_of row_of_name path_in
 path-by-row x t n = refl
 
-module _ (x : Fixed) (t n : ℕ) {r : Found} (f : Finds no_sub_element x.schema.sub_elements r (row_of_name x.schema t n)) where
-  pub path-found : {i : ℕ} → r ≡ FoundAt i → {p : SchemaPath} → p ≡ (get_or x.schema.sub_elements i no_sub_element).path → p ≡ path_of x t n
+module _ (x : Fixed) (t n : ℕ) {r : program_option.Option ℕ} (f : Finds no_sub_element x.schema.sub_elements r (row_of_name x.schema t n)) where
+  pub path-found : {i : ℕ} → r ≡ Some i → {p : SchemaPath} → p ≡ (get_or x.schema.sub_elements i no_sub_element).path → p ≡ path_of x t n
   unfolding path_in
   path-found k e = e ∙ sym (path-by-row x t n ∙ ap path_in (found-at f k))
 
-  pub path-missing : r ≡ NotFound → [] ≡ path_of x t n
+  pub path-missing : r ≡ None → [] ≡ path_of x t n
   unfolding path_in
   path-missing k = sym (path-by-row x t n ∙ ap path_in (found-missing f k))
 
-unfoldable pub by_order : Order → Action
+unfoldable pub by_order : program_order.Ordering → Action
 by_order Less = a_only
 by_order Equal = b_only
 by_order Greater = b_only
@@ -61,7 +60,7 @@ by-order Ordering.eq = refl
 by-order Ordering.gt = refl
 
 module _ (n : ℕ) (x : Fixed) (t a b : ℕ) {na nb : ℕ} (ea : na ≡ name_of x a) (eb : nb ≡ name_of x b) {p q : SchemaPath} (ep : p ≡ path_of x t na) (eq : q ≡ path_of x t nb)
-    {o : Order} (eo : o ≡ order_of (path_order p q)) where
+    {o : program_order.Ordering} (eo : o ≡ order_of (path_order p q)) where
   ordered : action_by_path x t a b ≡ by_order o
   unfolding action_by_path
   ordered =
@@ -82,22 +81,22 @@ module _ (n : ℕ) (x : Fixed) (t a b : ℕ) {na nb : ℕ} (ea : na ≡ name_of 
 
 -- ---- the texts
 
-module _ (x : Fixed) (m : Model) (a b : ℕ) {r s : Found} (f : Finds (enum_number 0) x.elements.texts r (sole_text x (list_of m a))) (g : Finds (enum_number 0) x.elements.texts s (sole_text x (list_of m b))) where
-  pub texts-both : {t u : ℕ} → r ≡ FoundAt t → s ≡ FoundAt u → {v w : code_text.Text} → v ≡ value_of (text_of x t) → w ≡ value_of (text_of x u) → {o : Bool} → o ≡ same_values x.deck v w
+module _ (x : Fixed) (m : Model) (a b : ℕ) {r s : program_option.Option ℕ} (f : Finds (enum_number 0) x.elements.texts r (sole_text x (list_of m a))) (g : Finds (enum_number 0) x.elements.texts s (sole_text x (list_of m b))) where
+  pub texts-both : {t u : ℕ} → r ≡ Some t → s ≡ Some u → {v w : code_text.Text} → v ≡ value_of (text_of x t) → w ≡ value_of (text_of x u) → {o : Bool} → o ≡ same_values x.deck v w
       → o ≡ same_texts x (element_text x m a) (element_text x m b)
   unfolding element_text same_texts
   texts-both {t} {u} h k ev ew e =
       e ∙ (λ i. same_values x.deck (ev i) (ew i)) ∙ sym (same-values x.deck (text_of x t) (text_of x u)) ∙ sym (λ i. same_texts x (found-at f h i) (found-at g k i))
 
-  pub texts-first : {t : ℕ} → r ≡ FoundAt t → s ≡ NotFound → false ≡ same_texts x (element_text x m a) (element_text x m b)
+  pub texts-first : {t : ℕ} → r ≡ Some t → s ≡ None → false ≡ same_texts x (element_text x m a) (element_text x m b)
   unfolding element_text same_texts
   texts-first h k = sym (λ i. same_texts x (found-at f h i) (found-missing g k i))
 
-  pub texts-second : {u : ℕ} → r ≡ NotFound → s ≡ FoundAt u → false ≡ same_texts x (element_text x m a) (element_text x m b)
+  pub texts-second : {u : ℕ} → r ≡ None → s ≡ Some u → false ≡ same_texts x (element_text x m a) (element_text x m b)
   unfolding element_text same_texts
   texts-second h k = sym (λ i. same_texts x (found-missing f h i) (found-at g k i))
 
-  pub texts-none : r ≡ NotFound → s ≡ NotFound → true ≡ same_texts x (element_text x m a) (element_text x m b)
+  pub texts-none : r ≡ None → s ≡ None → true ≡ same_texts x (element_text x m a) (element_text x m b)
   unfolding element_text same_texts
   texts-none h k = sym (λ i. same_texts x (found-missing f h i) (found-missing g k i))
 

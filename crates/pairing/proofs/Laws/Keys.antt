@@ -29,8 +29,7 @@ use Rattle.tables.proofs.Laws.ModelTable.{item-below, listed_below, start-room, 
 use Rattle.table_test.specs.ElementsTest.{TextIn}
 use Rattle.table_test.specs.Passing.{ItemTextIn}
 use Rattle.deck.specs.Schema.{short_name, definition_ref}
-use Rattle.schema_calls.specs.declared.calls.Found.{Found}
-use Rattle.schema_calls.specs.declared.calls.Found.TheVariants.{At as FoundAt, Missing as NotFound}
+use Rattle.std.specs.Prelude as program_option
 use Rattle.schema_calls.specs.Calls.{Finds, found_in}
 use Rattle.schema_calls.proofs.Laws.Scans.{found-at, found-missing}
 use Rattle.merge_rules.specs.Pairing.{children, children_of, string_of, sole_text, element_text, sole_string, leading_short_name, identifier, identifiable, item_name, definition_child, definition}
@@ -63,11 +62,6 @@ module _ {n texts : ℕ} {model : List ℕ} (f : ModelFits n texts model) (e i :
 -- ---- texts
 
 module _ {es : List ℕ} (t : ℕ) (h : t < length (elements_of es).texts) where
-  pub stored_is : GoodElements es → {k v : ℕ} → k ≡ text_kind (get_or (elements_of es).texts t (enum_number 0)) → v ≡ text_value (get_or (elements_of es).texts t (enum_number 0))
-      → {r : code_text.Text} → r ≡ value_of (text_from k v) → r ≡ value_of (get_or (elements_of es).texts t (enum_number 0))
-  stored_is g ek ev e =
-      e ∙ ap value_of ((λ i. text_from (ek i) (ev i)) ∙ text-back (get_or (elements_of es).texts t (enum_number 0)) (each-get_d TextFits (elements_of es).texts t (enum_number 0) g.sized.strings h))
-
   pub stored-fits : {deck schema : List ℕ} → GoodFixed deck schema es → TextIn (length deck) (get_or (elements_of es).texts t (enum_number 0))
   stored-fits {deck = deck} g = each-get_d (TextIn (length deck)) (elements_of es).texts t (enum_number 0) g.texts h
 
@@ -122,7 +116,7 @@ sole-item (a ∷ []) h = refl
 sole-item (a ∷ b ∷ l) h = absurd (omega arith)
 
 module _ (x : Fixed) (l : List Item) {n : ℕ} (en : n ≡ length l) where
-  pub sole-not : (n ≡ 1 → ⊥) → Finds (enum_number 0) x.elements.texts NotFound (sole_text x l)
+  pub sole-not : (n ≡ 1 → ⊥) → Finds (enum_number 0) x.elements.texts None (sole_text x l)
   unfolding found_in
   sole-not k = record { is = sym (not-one x l (λ z. k (en ∙ z))); within = tt }
 
@@ -130,20 +124,20 @@ module _ (x : Fixed) (l : List Item) {n : ℕ} (en : n ≡ length l) where
     sole-as : {b : program.Item} → a ≡ b → sole_text x (item_is b ∷ []) ≡ sole_text x l
     sole-as k = sym (ap (sole_text x) (sole-item l (sym en ∙ one) ∙ ap (λ (z : Item). z ∷ []) (sym ea ∙ ap item_is k)))
 
-    pub sole-child : {c : numbers.Element} → a ≡ ChildItem c → Finds (enum_number 0) x.elements.texts NotFound (sole_text x l)
+    pub sole-child : {c : numbers.Element} → a ≡ ChildItem c → Finds (enum_number 0) x.elements.texts None (sole_text x l)
     unfolding found_in sole_text
     sole-child k = record { is = sole-as k; within = tt }
 
-    pub sole-is : {t : ℕ} → a ≡ TextItem t → t < length x.elements.texts → Finds (enum_number 0) x.elements.texts (FoundAt t) (sole_text x l)
+    pub sole-is : {t : ℕ} → a ≡ TextItem t → t < length x.elements.texts → Finds (enum_number 0) x.elements.texts (Some t) (sole_text x l)
     unfolding found_in sole_text
     sole-is k h = record { is = sole-as k; within = h }
 
-module _ (x : Fixed) (m : Model) (e : ℕ) {r : Found} (f : Finds (enum_number 0) x.elements.texts r (sole_text x (list_of m e))) where
-  pub string-missing : r ≡ NotFound → Keys x.deck None (sole_string x m e)
+module _ (x : Fixed) (m : Model) (e : ℕ) {r : program_option.Option ℕ} (f : Finds (enum_number 0) x.elements.texts r (sole_text x (list_of m e))) where
+  pub string-missing : r ≡ None → Keys x.deck None (sole_string x m e)
   unfolding sole_string element_text
   string-missing k = record { is = rw (sole_string, element_text, found-missing f k); within = tt }
 
-  pub string-found : {t : ℕ} → r ≡ FoundAt t → {k : Key} → Keys x.deck k (string_of x (text_of x t)) → Keys x.deck k (sole_string x m e)
+  pub string-found : {t : ℕ} → r ≡ Some t → {k : Key} → Keys x.deck k (string_of x (text_of x t)) → Keys x.deck k (sole_string x m e)
   unfolding sole_string element_text
   string-found k s = record { is = s.is ∙ rw (sole_string, element_text, found-at f k); within = s.within }
 

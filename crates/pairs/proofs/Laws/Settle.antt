@@ -8,8 +8,7 @@ use lib.Dec.{eqb}
 use Rattle.tables.specs.FileSets.{no_set}
 use Rattle.tables.specs.Records.{Element, FileNumber, FileSet, Version, Model, Log, State, Fixed, name_of, type_of, set_of, list_of}
 use Rattle.tables.specs.declared.numbers.Element as numbers
-use Rattle.schema_calls.specs.declared.calls.Found.{Found}
-use Rattle.schema_calls.specs.declared.calls.Found.TheVariants.{At, Missing}
+use Rattle.std.specs.Prelude as program_option
 use Rattle.deck.specs.Schema.{splittable_in}
 use Rattle.merge_rules.specs.Import.{clamp, import_at}
 use Rattle.merge_rules.specs.Level.{files_of_pair, extend_pair, keyed, place_behind, import_instead, fall_back, settle_conflict, settle}
@@ -69,14 +68,14 @@ module _ (x : Fixed) (m : Model) (a : Element) {i : Bool} (named : i ≡ identif
 
 -- ---- the place behind A
 
-module _ (m : Model) (p a : Element) (r : Found) (f : FirstPlace a (list_of m p) r) where
-  pub behind-place : (i : ℕ) → r ≡ At i → i + 1 ≡ place_behind m p a
+module _ (m : Model) (p a : Element) (r : program_option.Option ℕ) (f : FirstPlace a (list_of m p) r) where
+  pub behind-place : (i : ℕ) → r ≡ Some i → i + 1 ≡ place_behind m p a
   unfolding place_behind
   behind-place i k =
       let e : first_place_of a (list_of m p) ≡ some i = sym f.is ∙ ap place_is k in
       rw (add-one i) (sym (rw (place_behind, e)))
 
-  pub behind-none : r ≡ Missing → 1 ≡ place_behind m p a
+  pub behind-none : r ≡ None → 1 ≡ place_behind m p a
   unfolding place_behind
   behind-none k =
       let e : first_place_of a (list_of m p) ≡ none = sym f.is ∙ ap place_is k in

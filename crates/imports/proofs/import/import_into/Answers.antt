@@ -10,7 +10,7 @@ returns-in_default c =
 
 pub returns-then-entries-ge-LOG_LIMIT : goal.returns-then-entries-ge-LOG_LIMIT
 returns-then-entries-ge-LOG_LIMIT c =
-    into-log-full c.args.schema.now c.args.elements.now c.args.f.0 c.args.v c.args.r c.args.e.0 c.element_type-t.result.0 c.element_name-n.result c.args.model.now c.args.log.now c.requires.v_lt_version_limit c.element_name-n.ensures c.element_type-t.ensures (found-at c.find_sub_element.ensures c.in-At.is)
+    into-log-full c.args.schema.now c.args.elements.now c.args.f.0 c.args.v c.args.r c.args.e.0 c.element_type-t.result.0 c.element_name-n.result c.args.model.now c.args.log.now c.requires.v_lt_version_limit c.element_name-n.ensures c.element_type-t.ensures (found-at c.find_sub_element.ensures c.in-Some.is)
     c.requires.any_place c.requires.model_over.good (rw c.requires.model_over.same c.requires.p_in_bounds) c.requires.run_in (search rules)
 
 pub enter-requires : goal.enter-requires
@@ -18,5 +18,5 @@ enter-requires c = record { good_model = c.requires.model_over.good; good_log = 
 
 pub returns : goal.returns
 returns c =
-    into-done c.args.schema.now c.args.elements.now c.args.f.0 c.args.v c.args.r c.args.e.0 c.element_type-t.result.0 c.element_name-n.result c.args.model.now c.args.log.now c.requires.v_lt_version_limit c.element_name-n.ensures c.element_type-t.ensures (found-at c.find_sub_element.ensures c.in-At.is)
+    into-done c.args.schema.now c.args.elements.now c.args.f.0 c.args.v c.args.r c.args.e.0 c.element_type-t.result.0 c.element_name-n.result c.args.model.now c.args.log.now c.requires.v_lt_version_limit c.element_name-n.ensures c.element_type-t.ensures (found-at c.find_sub_element.ensures c.in-Some.is)
     c.requires.any_place c.requires.model_over.good (rw c.requires.model_over.same c.requires.p_in_bounds) c.requires.run_in c.enter.new.model c.enter.new.log c.requires.k_nonzero (search rules) c.enter.ensures

@@ -32,7 +32,7 @@ read_content-requires c =
       each = r.each;
       model_over = r.model_over;
       p_in_bounds = r.p_in_bounds;
-      in_bounds = found_within c.find_sub_element.ensures c.in-At.is;
+      in_bounds = found_within c.find_sub_element.ensures c.in-Some.is;
     }
 
 pub returns-in-0 : goal.returns-in-0
@@ -41,18 +41,18 @@ returns-in-0 c =
     let r = c.read_content.result in
     ranges a.schema.now a.elements.now a.model.now a.p.0 a.n.0 a.v r
     (λ deck. calc-read (fixed_in deck a.schema.now a.elements.now) (model_of a.model.now) a.p.0 a.n.0 a.v c.requires.v_lt_version_limit
-    c.element_type-t.ensures (found-at c.find_sub_element.ensures c.in-At.is) c.type_mode-mode.ensures c.in-0.is r (c.read_content.ensures deck))
+    c.element_type-t.ensures (found-at c.find_sub_element.ensures c.in-Some.is) c.type_mode-mode.ensures c.in-0.is r (c.read_content.ensures deck))
 
 pub returns-in-2 : goal.returns-in-2
 returns-in-2 c =
     let a = c.args in
     ranges a.schema.now a.elements.now a.model.now a.p.0 a.n.0 a.v (Ok (record { first = 0; last = c.list_length.result }))
     (λ deck. calc-all (fixed_in deck a.schema.now a.elements.now) (model_of a.model.now) a.p.0 a.n.0 a.v c.requires.v_lt_version_limit
-    c.element_type-t.ensures (found-at c.find_sub_element.ensures c.in-At.is) c.type_mode-mode.ensures (omega arith) (omega arith) c.list_length.ensures)
+    c.element_type-t.ensures (found-at c.find_sub_element.ensures c.in-Some.is) c.type_mode-mode.ensures (omega arith) (omega arith) c.list_length.ensures)
 
 pub returns-in_default-mode : goal.returns-in_default-mode
 returns-in_default-mode c =
     let a = c.args in
     ranges a.schema.now a.elements.now a.model.now a.p.0 a.n.0 a.v (Err NoRow)
     (λ deck. calc-characters (fixed_in deck a.schema.now a.elements.now) (model_of a.model.now) a.p.0 a.n.0 a.v c.requires.v_lt_version_limit
-    c.element_type-t.ensures (found-at c.find_sub_element.ensures c.in-At.is) c.type_mode-mode.ensures (omega arith))
+    c.element_type-t.ensures (found-at c.find_sub_element.ensures c.in-Some.is) c.type_mode-mode.ensures (omega arith))

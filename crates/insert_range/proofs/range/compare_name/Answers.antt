@@ -7,8 +7,8 @@ returns-in_default c =
     compares-none c.args.schema.now c.args.t.0 c.args.new c.args.n.0 (found-missing c.row_of_name.ensures c.in_default.is)
 
 pub row_path-other-requires : goal.row_path-other-requires
-row_path-other-requires c = record { good_schema = c.requires.good_schema; i_in_bounds = found_within c.row_of_name.ensures c.in-At.is }
+row_path-other-requires c = record { good_schema = c.requires.good_schema; i_in_bounds = found_within c.row_of_name.ensures c.in-Some.is }
 
 pub returns : goal.returns
 returns c =
-    compares-row c.args.schema.now c.args.t.0 c.args.new c.args.n.0 (found-at c.row_of_name.ensures c.in-At.is) c.row_path-path.ensures c.row_path-other.ensures c.find_common_group-mode.ensures c.order-order.ensures
+    compares-row c.args.schema.now c.args.t.0 c.args.new c.args.n.0 (found-at c.row_of_name.ensures c.in-Some.is) c.row_path-path.ensures c.row_path-other.ensures c.find_common_group-mode.ensures c.order-order.ensures

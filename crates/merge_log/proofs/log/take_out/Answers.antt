@@ -25,4 +25,4 @@ returns-in_default c =
 
 pub returns : goal.returns
 returns c =
-    leads_one c.args.model.now c.args.r c.args.once c.requires.once_if c.remove_run.new.model c.remove_run.ensures.holds_model c.args.e.0 c.args.p.0 _ refl c.remove_run.ensures.keeps_model c.find_place-found.result c.find_place-found.ensures c.in-At.i c.in-At.is refl refl
+    leads_one c.args.model.now c.args.r c.args.once c.requires.once_if c.remove_run.new.model c.remove_run.ensures.holds_model c.args.e.0 c.args.p.0 _ refl c.remove_run.ensures.keeps_model c.find_place-found.result c.find_place-found.ensures c.in-Some.i c.in-Some.is refl refl

@@ -5,13 +5,13 @@ use Rattle.pairing.proofs.Laws.Actions.{path-found, path-missing}
 use Rattle.pairing.proofs.action.path_of.Goals as goal
 
 pub row_path-requires : goal.row_path-requires
-row_path-requires c = record { good_schema = c.requires; i_in_bounds = found_within c.row_of_name-row.ensures c.in-At.is }
+row_path-requires c = record { good_schema = c.requires; i_in_bounds = found_within c.row_of_name-row.ensures c.in-Some.is }
 
-pub returns-in-At : goal.returns-in-At
-returns-in-At c =
-    λ deck elements. path-found (fixed_in deck c.args.schema.now elements) c.args.t.0 c.args.n.0 c.row_of_name-row.ensures c.in-At.is c.row_path.ensures
+pub returns-in-Some : goal.returns-in-Some
+returns-in-Some c =
+    λ deck elements. path-found (fixed_in deck c.args.schema.now elements) c.args.t.0 c.args.n.0 c.row_of_name-row.ensures c.in-Some.is c.row_path.ensures
 
-pub returns-in-Missing : goal.returns-in-Missing
+pub returns-in-None : goal.returns-in-None
 unfolding front
-returns-in-Missing c =
-    λ deck elements. path-missing (fixed_in deck c.args.schema.now elements) c.args.t.0 c.args.n.0 c.row_of_name-row.ensures c.in-Missing.is
+returns-in-None c =
+    λ deck elements. path-missing (fixed_in deck c.args.schema.now elements) c.args.t.0 c.args.n.0 c.row_of_name-row.ensures c.in-None.is

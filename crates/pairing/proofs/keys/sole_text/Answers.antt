@@ -15,11 +15,11 @@ pub returns-in-Child : goal.returns-in-Child
 returns-in-Child c =
     let x = fixed_in c.args.deck.now c.args.schema.now c.args.elements.now in
     let l = list_of (model_of c.args.model.now) c.args.e.0 in
-    sole-child x l c.list_length.ensures c.if-list_length-ne1.false c.item_at-a.ensures c.in-Child.is
+    sole-child x l c.list_length.ensures c.if-list_length-ne1.false c.item_at.ensures c.in-Child.is
 
 pub returns-in-Text : goal.returns-in-Text
 returns-in-Text c =
     let x = fixed_in c.args.deck.now c.args.schema.now c.args.elements.now in
     let l = list_of (model_of c.args.model.now) c.args.e.0 in
-    let t = text_in_lem c.requires.model_over c.args.e.0 0 (search rules) c.item_at-a.ensures c.in-Text.is in
-    sole-is x l c.list_length.ensures c.if-list_length-ne1.false c.item_at-a.ensures c.in-Text.is t
+    let t = text_in_lem c.requires.model_over c.args.e.0 0 (search rules) c.item_at.ensures c.in-Text.is in
+    sole-is x l c.list_length.ensures c.if-list_length-ne1.false c.item_at.ensures c.in-Text.is t
