@@ -24,10 +24,7 @@ fn root_set_stored(model: &[u64]) -> bool
     requires { GoodModel model.now }
     ensures { result ≡ root_set_stored (model_of model.now) }
 {
-    if count(model) == 0 {
-        return false;
-    }
-    !set_of(model, Element(0)).is_empty()
+    count(model) != 0 && !set_of(model, Element(0)).is_empty()
 }
 
 // Each set of the model is a part of d, the declared files.
@@ -35,12 +32,9 @@ fn sets_declared(model: &[u64], d: FileSet) -> bool
     requires { GoodModel model.now }
     ensures { (sc : Schema) → set_is d ≡ declared_files sc → result ≡ all_of (set_declared sc) (model_of model.now).sets }
 {
-    let n = count(model);
     let mut all = true;
-    let mut e = 0;
-    while e < n {
+    for e in 0..count(model) {
         all = all & set_of(model, Element(e)).part_of(d);
-        e += 1;
     }
     all
 }
@@ -50,8 +44,7 @@ fn entry_declared(d: FileSet, a: Entry) -> bool
     ensures { (sc : Schema) → set_is d ≡ declared_files sc → result ≡ entry_declared sc (entry_is a) }
 {
     match a {
-        Entry::Import(_, _, _, s) => s.part_of(d),
-        Entry::Restriction(_, s) => s.part_of(d),
+        Entry::Import(_, _, _, s) | Entry::Restriction(_, s) => s.part_of(d),
         Entry::Extension(_, _) => true,
     }
 }
@@ -61,11 +54,8 @@ fn log_declared(log: &[u64], d: FileSet) -> bool
     requires { GoodLog log.now }
     ensures { (sc : Schema) → set_is d ≡ declared_files sc → result ≡ all_of (entry_declared sc) (log_of log.now) }
 {
-    let mut i = log_length(log);
-    while 0 < i {
-        i -= 1;
-        let a = entry_at(log, i);
-        if !entry_declared(d, a) {
+    for i in (0..log_length(log)).rev() {
+        if !entry_declared(d, entry_at(log, i)) {
             return false;
         }
     }
@@ -77,13 +67,10 @@ fn trees_declared(elements: &[u64], d: FileSet) -> bool
     requires { GoodElements elements.now }
     ensures { (sc : Schema) → set_is d ≡ declared_files sc → result ≡ all_of (tree_declared sc) (elements_of elements.now).trees }
 {
-    let n = tree_count(elements);
-    let mut i = 0;
-    while i < n {
+    for i in 0..tree_count(elements) {
         if !d.holds(tree_file(elements, i)) {
             return false;
         }
-        i += 1;
     }
     true
 }
@@ -97,20 +84,16 @@ fn tree_files_distinct(elements: &[u64], model: &[u64]) -> bool
     ensures { result ≡ tree_files_distinct (keep (waits (model_of model.now)) (elements_of elements.now).trees) }
 {
     let loaded = set_of(model, Element(0));
-    let n = tree_count(elements);
     let mut seen = FileSet::none();
-    let mut i = 0;
-    while i < n {
+    for i in 0..tree_count(elements) {
         let f = tree_file(elements, i);
         if loaded.holds(f) {
-            i += 1;
             continue;
         }
         if seen.holds(f) {
             return false;
         }
         seen = seen.with(f);
-        i += 1;
     }
     true
 }

@@ -1,5 +1,5 @@
 // Roots of depth 0 and type 0, and listed elements one deeper than their owner and of the type that a row gives their name.
-ghost use Rattle.std.specs.Prelude.{List, ◌≡◌, ℕ, ◌<◌, length};
+ghost use Rattle.std.specs.Prelude.{List, ◌≡◌, ℕ, ◌<◌, length, IfSome, is_some};
 ghost use Rattle.tables.specs.Cells.{Each};
 ghost use Rattle.tables.specs.Lists.{all_of};
 ghost use Rattle.tables.specs.Records.{child, list_of};
@@ -10,7 +10,7 @@ ghost use Rattle.deck.specs.Schema.{row_of_name};
 ghost use Rattle.schema_calls.specs.Calls.{Finds};
 ghost use Rattle.state_test.specs.StateTest.{root_valid, roots_valid, item_valid, lists_valid, fixed_in, Shallow, FoundRow};
 
-use schema_calls::calls::{Found, row_of_name};
+use schema_calls::calls::row_of_name;
 use tables::elements::{
     element_count, element_depth, element_name, element_type, tree_count, tree_root,
 };
@@ -22,15 +22,8 @@ fn root_valid(elements: &[u64], e: Element) -> bool
     requires { GoodElements elements.now }
     ensures { (deck schema : List ℕ) → result ≡ root_valid (fixed_in deck schema elements.now) e.0 }
 {
-    let i = e.0;
-    if element_count(elements) <= i {
-        return true;
-    }
-    if element_depth(elements, e) != 0 {
-        return false;
-    }
-    let t = element_type(elements, e);
-    t.0 == 0
+    element_count(elements) <= e.0
+        || (element_depth(elements, e) == 0 && element_type(elements, e) == TypeNumber(0))
 }
 
 // The model's root, and each tree's.
@@ -41,88 +34,67 @@ pub fn roots_valid(elements: &[u64]) -> bool
     if !root_valid(elements, Element(0)) {
         return false;
     }
-    let n = tree_count(elements);
-    let mut i = 0;
-    while i < n {
+    for i in 0..tree_count(elements) {
         if !root_valid(elements, tree_root(elements, i)) {
             return false;
         }
-        i += 1;
     }
     true
 }
 
-// Whether all that was asked is valid, and the row found last.
-#[derive(Clone, Copy)]
-pub struct Checked {
-    pub all: bool,
-    pub row: usize,
-}
-
 // The row of the name in the type: the one at this place, if it is that, else the one that a search finds.
-fn row_again(schema: &[u64], t: TypeNumber, n: Name, row: usize) -> Found
+fn row_again(schema: &[u64], t: TypeNumber, n: Name, row: usize) -> Option<usize>
     requires good_schema { GoodSchema schema.now }
     requires found_row { FoundRow (schema_of schema.now) row }
     ensures { Finds no_sub_element (schema_of schema.now).sub_elements result (row_of_name (schema_of schema.now) t.0 n.0) }
 {
-    let count = row_count(schema);
-    if count <= row {
-        return row_of_name(schema, t, n);
+    if row < row_count(schema) && row_type(schema, row) == t && row_name(schema, row) == n {
+        return Some(row);
     }
-    let ty = row_type(schema, row);
-    if ty.0 != t.0 {
-        return row_of_name(schema, t, n);
-    }
-    let name = row_name(schema, row);
-    if name.0 != n.0 {
-        return row_of_name(schema, t, n);
-    }
-    Found::At(row)
+    row_of_name(schema, t, n)
 }
 
-// A listed element is one deeper than p, and has the type that the row of its name in p's type gives.
-fn child_valid(schema: &[u64], elements: &[u64], p: Element, e: Element, row: usize) -> Checked
+// A listed element is one deeper than p, and has the type that the row of its name in p's type gives: that row then, else none.
+fn child_valid(schema: &[u64], elements: &[u64], p: Element, e: Element, row: usize) -> Option<usize>
     requires good_schema { GoodSchema schema.now }
     requires good_elements { GoodElements elements.now }
     requires each { Each Shallow (elements_of elements.now).depths }
     requires p_in_bounds { p.0 < length (elements_of elements.now).names }
     requires e_in_bounds { e.0 < length (elements_of elements.now).names }
     requires found_row { FoundRow (schema_of schema.now) row }
-    ensures by_index { (deck : List ℕ) → result.all ≡ item_valid (fixed_in deck schema.now elements.now) p.0 (child e.0) }
-    ensures found_row_2 { FoundRow (schema_of schema.now) result.row }
+    ensures by_index { (deck : List ℕ) → is_some result ≡ item_valid (fixed_in deck schema.now elements.now) p.0 (child e.0) }
+    ensures found_row_2 { IfSome result (FoundRow (schema_of schema.now)) }
 {
     if element_depth(elements, e) != element_depth(elements, p) + 1 {
-        return Checked { all: false, row };
+        return None;
     }
     let t = element_type(elements, p);
-    let n = element_name(elements, e);
-    let Found::At(i) = row_again(schema, t, n, row) else {
-        return Checked { all: false, row };
-    };
-    let c = row_child(schema, i);
-    let u = element_type(elements, e);
-    let all = c.0 == u.0;
-    Checked { all, row: i }
+    let i = row_again(schema, t, element_name(elements, e), row)?;
+    if row_child(schema, i) != element_type(elements, e) {
+        return None;
+    }
+    Some(i)
 }
 
-fn item_valid(schema: &[u64], elements: &[u64], p: Element, a: Item, row: usize) -> Checked
+// The row found last if the item is valid, else none.
+fn item_valid(schema: &[u64], elements: &[u64], p: Element, a: Item, row: usize) -> Option<usize>
     requires good_schema { GoodSchema schema.now }
     requires good_elements { GoodElements elements.now }
     requires each { Each Shallow (elements_of elements.now).depths }
     requires p_in_bounds { p.0 < length (elements_of elements.now).names }
     requires item_below { ItemBelow (length (elements_of elements.now).names) (item_is a) }
     requires found_row { FoundRow (schema_of schema.now) row }
-    ensures by_index { (deck : List ℕ) → result.all ≡ item_valid (fixed_in deck schema.now elements.now) p.0 (item_is a) }
-    ensures found_row_2 { FoundRow (schema_of schema.now) result.row }
+    ensures by_index { (deck : List ℕ) → is_some result ≡ item_valid (fixed_in deck schema.now elements.now) p.0 (item_is a) }
+    ensures found_row_2 { IfSome result (FoundRow (schema_of schema.now)) }
 {
     match a {
         Item::Child(e) => child_valid(schema, elements, p, e, row),
-        Item::Text(_) => Checked { all: true, row },
+        Item::Text(_) => Some(row),
     }
 }
 
-// The list of p.
-fn list_valid(schema: &[u64], elements: &[u64], model: &[u64], p: usize, row: usize) -> Checked
+// The row found last if each item in the list of p is valid, else none.
+fn list_valid(schema: &[u64], elements: &[u64], model: &[u64], p: usize, row: usize) -> Option<usize>
     requires good_schema { GoodSchema schema.now }
     requires good_elements { GoodElements elements.now }
     requires each { Each Shallow (elements_of elements.now).depths }
@@ -130,28 +102,15 @@ fn list_valid(schema: &[u64], elements: &[u64], model: &[u64], p: usize, row: us
     requires model_value { count_of (model_of model.now) ≡ length (elements_of elements.now).names }
     requires p_bound { p < count_of (model_of model.now) }
     requires found_row { FoundRow (schema_of schema.now) row }
-    ensures by_index { (deck : List ℕ) → result.all ≡ all_of (item_valid (fixed_in deck schema.now elements.now) p) (list_of (model_of model.now) p) }
-    ensures found_row_2 { FoundRow (schema_of schema.now) result.row }
+    ensures by_index { (deck : List ℕ) → is_some result ≡ all_of (item_valid (fixed_in deck schema.now elements.now) p) (list_of (model_of model.now) p) }
+    ensures found_row_2 { IfSome result (FoundRow (schema_of schema.now)) }
 {
-    let n = list_length(model, Element(p));
     let mut last = row;
-    let mut i = 0;
-    while i < n {
+    for i in 0..list_length(model, Element(p)) {
         let a = item_at(model, Element(p), i);
-        let r = item_valid(schema, elements, Element(p), a, last);
-        last = r.row;
-        if !r.all {
-            return Checked {
-                all: false,
-                row: last,
-            };
-        }
-        i += 1;
+        last = item_valid(schema, elements, Element(p), a, last)?;
     }
-    Checked {
-        all: true,
-        row: last,
-    }
+    Some(last)
 }
 
 pub fn lists_valid(schema: &[u64], elements: &[u64], model: &[u64]) -> bool
@@ -162,16 +121,12 @@ pub fn lists_valid(schema: &[u64], elements: &[u64], model: &[u64]) -> bool
     requires model_value { count_of (model_of model.now) ≡ length (elements_of elements.now).names }
     ensures { (deck : List ℕ) → result ≡ lists_valid (fixed_in deck schema.now elements.now) 0 (model_of model.now).lists }
 {
-    let n = count(model);
     let mut last = row_count(schema);
-    let mut p = 0;
-    while p < n {
-        let r = list_valid(schema, elements, model, p, last);
-        if !r.all {
+    for p in 0..count(model) {
+        let Some(row) = list_valid(schema, elements, model, p, last) else {
             return false;
-        }
-        last = r.row;
-        p += 1;
+        };
+        last = row;
     }
     true
 }

@@ -18,16 +18,13 @@ fn groups_valid(schema: &[u64]) -> bool
     requires { GoodSchema schema.now }
     ensures { result ≡ groups_valid (types_alone (schema_of schema.now)) (schema_of schema.now).groups }
 {
-    let n = group_count(schema);
-    let mut i = 0;
-    while i < n {
+    for i in 0..group_count(schema) {
         let t = group_type(schema, i);
         let p = group_path(schema, i);
         let repeated = repeats(schema, Index::Groups, i);
         if !group_rule(schema, i, t, p, repeated) {
             return false;
         }
-        i += 1;
     }
     true
 }
@@ -54,14 +51,11 @@ fn rows_valid(schema: &[u64]) -> bool
     requires schema_value { groups_valid (types_alone (schema_of schema.now)) (schema_of schema.now).groups ≡ true }
     ensures { result ≡ rows_valid (without_rows (schema_of schema.now)) (schema_of schema.now).sub_elements }
 {
-    let n = row_count(schema);
-    let mut i = 0;
-    while i < n {
+    for i in 0..row_count(schema) {
         let repeated = row_repeats(schema, i);
         if !sub_element_rule(schema, i, row_cells(schema, i), repeated) {
             return false;
         }
-        i += 1;
     }
     true
 }
@@ -71,8 +65,5 @@ pub fn schema_valid(schema: &[u64]) -> bool
     requires each { Each PathFilled (schema_of schema.now).sub_elements }
     ensures { result ≡ schema_valid (schema_of schema.now) }
 {
-    if !groups_valid(schema) {
-        return false;
-    }
-    rows_valid(schema)
+    groups_valid(schema) && rows_valid(schema)
 }

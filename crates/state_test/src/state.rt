@@ -49,8 +49,5 @@ pub fn lent_tables_pass(
 ) -> bool
     ensures { result ≡ lent_tables_pass deck.now schema.now elements.now model.now log.now }
 {
-    if !tables_pass(deck, schema, elements, model, log) {
-        return false;
-    }
-    state_valid(schema, elements, model, log)
+    tables_pass(deck, schema, elements, model, log) && state_valid(schema, elements, model, log)
 }

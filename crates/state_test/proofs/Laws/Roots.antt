@@ -16,7 +16,7 @@ use Rattle.tables.specs.SchemaTable.{no_sub_element}
 use Rattle.tables.proofs.Laws.Cases.{bool_case, bool-split}
 use Rattle.deck.specs.Schema.{meets, all_versions, find_sub_element, row_of_name}
 use Rattle.schema_calls.specs.Calls.{Finds, found_in}
-use Rattle.schema_calls.specs.declared.calls.Found.TheVariants.{At}
+use Rattle.std.specs.Prelude.{Some}
 use Rattle.state_test.specs.StateTest.{root_valid, roots_valid, item_valid, lists_valid, FoundRow}
 use Rattle.tables.proofs.Laws.Scans.{drop-next, drop-end}
 
@@ -94,7 +94,7 @@ module _ (sc : Schema) (i : ℕ) where
         rw (eqb-true r.type t ty, eqb-true r.name n name) e
 
     pub row_kept : FoundRow sc i → i < length sc.sub_elements → {ty name : ℕ} → ty ≡ (get_or sc.sub_elements i no_sub_element).type
-        → name ≡ (get_or sc.sub_elements i no_sub_element).name → ty ≡ t → name ≡ n → Finds no_sub_element sc.sub_elements (At i) (row_of_name sc t n)
+        → name ≡ (get_or sc.sub_elements i no_sub_element).name → ty ≡ t → name ≡ n → Finds no_sub_element sc.sub_elements (Some i) (row_of_name sc t n)
     unfolding found_in
     row_kept f k a b e g =
         record { is = sym (f k) ∙ (λ j. row_of_name sc ((sym a ∙ e) j) ((sym b ∙ g) j)); within = k }

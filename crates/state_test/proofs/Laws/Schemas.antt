@@ -6,9 +6,7 @@ use Prim.Native.Nat.{ℕ, ◌+◌, ◌≤◌, ◌<◌}
 use native.Mathlib.Numerals.{add-one}
 use lib.ListN.{length, get_or, take, drop}
 use lib.Seq.{take-suc}
-use Rattle.tables.specs.Records.{SchemaPath, Group, SubElement, Schema, add_group, add_sub_element}
-use Rattle.tables.specs.SchemaTable.{mult_number, mult_from}
-use Rattle.tables.proofs.Laws.SchemaTable.{mult-back}
+use Rattle.tables.specs.Records.{SchemaPath, Mult, Group, SubElement, Schema, add_group, add_sub_element}
 use Rattle.deck.specs.Schema.{declared_type, group_at, has_group, path_valid, group_rule, sub_element_rule}
 use Rattle.schema_calls.specs.Calls.{groups_above, rows_above, PathsClosed}
 use Rattle.schema_calls.proofs.Laws.Closed.{closed_none, closed-group}
@@ -144,10 +142,10 @@ unfolding rows_above
 row-rule-above sc i r = refl
 
 -- an S row by its fields as they are read
-pub row-fields : (r : SubElement) {t n c m k : ℕ} {p : SchemaPath} → t ≡ r.type → p ≡ r.path → n ≡ r.name → c ≡ r.child_type → m ≡ mult_number r.mult → k ≡ r.mask
-    → record { type = t; path = p; name = n; child_type = c; mult = mult_from m; mask = k } ≡ r
+pub row-fields : (r : SubElement) {t n c k : ℕ} {p : SchemaPath} {m : Mult} → t ≡ r.type → p ≡ r.path → n ≡ r.name → c ≡ r.child_type → m ≡ r.mult → k ≡ r.mask
+    → record { type = t; path = p; name = n; child_type = c; mult = m; mask = k } ≡ r
 row-fields r a b n c m k =
-    λ j. record { type = a j; path = b j; name = n j; child_type = c j; mult = (ap mult_from m ∙ mult-back r.mult) j; mask = k j }
+    λ j. record { type = a j; path = b j; name = n j; child_type = c j; mult = m j; mask = k j }
 
 -- ---- both
 

@@ -13,5 +13,3 @@ abbrev pub invariant-loop-i : goal.invariant-loop-i
 invariant-loop-i l =
     (l.i ≤ length (log_of l.log)) × ((sc : Schema) → set_is l.d ≡ declared_files sc → all_of (entry_declared sc) (drop (length (log_of l.log) - l.i) (log_of l.log)) ≡ all_of (entry_declared sc) (log_of l.log))
 
-abbrev pub decreases-loop-i : goal.decreases-loop-i
-decreases-loop-i l = l.i

@@ -6,9 +6,6 @@ use Rattle.state_test.proofs.Laws.Files.{set_tested}
 use Rattle.tables.proofs.Laws.Scans.{all-next, all_done}
 use Rattle.state_test.proofs.files.sets_declared.Goals as goal
 
-pub loop-e-init : goal.loop-e-init
-loop-e-init c = λ sc k. refl
-
 pub loop-e-preserved : goal.loop-e-preserved
 loop-e-preserved c =
     let sized = c.requires.sized.sets in

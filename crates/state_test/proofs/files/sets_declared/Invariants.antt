@@ -14,5 +14,3 @@ abbrev pub invariant-loop-e : goal.invariant-loop-e
 invariant-loop-e l =
     (sc : Schema) → set_is l.d ≡ declared_files sc → (l.all && all_of (set_declared sc) (drop l.e (model_of l.model).sets)) ≡ all_of (set_declared sc) (model_of l.model).sets
 
-abbrev pub decreases-loop-e : goal.decreases-loop-e
-decreases-loop-e l = l.n - l.e

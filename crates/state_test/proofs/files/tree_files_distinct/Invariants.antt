@@ -14,5 +14,3 @@ invariant-loop-i l =
     distinct_from (set_is l.seen) (keep (waits (model_of l.model)) (drop l.i (elements_of l.elements).trees))
     ≡ tree_files_distinct (keep (waits (model_of l.model)) (elements_of l.elements).trees)
 
-abbrev pub decreases-loop-i : goal.decreases-loop-i
-decreases-loop-i l = l.n - l.i

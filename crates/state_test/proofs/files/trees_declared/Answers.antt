@@ -7,9 +7,6 @@ use Rattle.state_test.proofs.Laws.Answers.{passed, failed}
 use borrow.Author.Rules.{rules}
 use Rattle.state_test.proofs.files.trees_declared.Goals as goal
 
-pub loop-i-init : goal.loop-i-init
-loop-i-init c = λ sc e. refl
-
 pub returns-then-not-holds : goal.returns-then-not-holds
 returns-then-not-holds c =
     λ sc e.

@@ -13,5 +13,3 @@ abbrev pub invariant-loop-i : goal.invariant-loop-i
 invariant-loop-i l =
     (sc : Schema) → set_is l.d ≡ declared_files sc → all_of (tree_declared sc) (drop l.i (elements_of l.elements).trees) ≡ all_of (tree_declared sc) (elements_of l.elements).trees
 
-abbrev pub decreases-loop-i : goal.decreases-loop-i
-decreases-loop-i l = l.n - l.i

@@ -1,29 +1,36 @@
-use native.Mathlib.Omega.{arith}
-use Rattle.tables.specs.ElementsTable.{elements_of}
+use mathlib.Core.Path.{sym, ◌∙◌}
+use borrow.Author.Tests.{not-true, not-false}
 use Rattle.tables.specs.SchemaTable.{schema_of}
-use Rattle.tables.proofs.Laws.Cells.{each-get_d}
-use Rattle.state_test.specs.StateTest.{fixed_in, Shallow}
-use Rattle.schema_calls.proofs.Laws.Scans.{found-at, found_within, found-missing}
+use Rattle.schema_calls.proofs.Laws.Scans.{found-at, found-missing}
+use Rattle.state_test.specs.StateTest.{fixed_in}
 use Rattle.state_test.proofs.Laws.Roots.{not-deeper, no_row, some-row, found-row}
-use borrow.Author.Rules.{rules}
 use Rattle.state_test.proofs.roots.child_valid.Goals as goal
 
-pub overflow_add-element_depth : goal.overflow_add-element_depth
-overflow_add-element_depth c =
-    let h = each-get_d Shallow (elements_of c.args.elements.now).depths c.args.p.0 0 c.requires.each (omega (arith, c.requires.good_elements.sized.same_depths)) in
-    search rules
+pub returns-then-element_depth-clause-by_index : goal.returns-then-element_depth-clause-by_index
+returns-then-element_depth-clause-by_index c =
+    λ deck.
+    not-deeper (fixed_in deck c.args.schema.now c.args.elements.now) c.args.p.0 c.args.e.0 c.element_depth.ensures c.element_depth-2.ensures c.if-element_depth.true
 
-pub returns-then-element_depth : goal.returns-then-element_depth
-returns-then-element_depth c = record { by_index = λ deck. not-deeper (fixed_in deck c.args.schema.now c.args.elements.now) c.args.p.0 c.args.e.0 c.element_depth.ensures c.element_depth-2.ensures c.if-element_depth.true; found_row_2 = search rules }
+pub returns-in_err-i-clause-by_index : goal.returns-in_err-i-clause-by_index
+returns-in_err-i-clause-by_index c =
+    λ deck.
+    rw c.from_residual.ensures
+    (no_row (fixed_in deck c.args.schema.now c.args.elements.now) c.args.p.0 c.args.e.0 c.element_depth.ensures c.element_depth-2.ensures c.if-element_depth.false
+    c.element_type-t.ensures c.element_name.ensures (found-missing c.row_again.ensures c.in_err-i.was))
 
-pub returns-in_default : goal.returns-in_default
-returns-in_default c = record { by_index = λ deck. no_row (fixed_in deck c.args.schema.now c.args.elements.now) c.args.p.0 c.args.e.0 c.element_depth.ensures c.element_depth-2.ensures c.if-element_depth.false c.element_type-t.ensures c.element_name-n.ensures (found-missing c.row_again.ensures c.in_default.is); found_row_2 = search rules }
+pub returns-then-ne-clause-by_index : goal.returns-then-ne-clause-by_index
+returns-then-ne-clause-by_index c =
+    λ deck.
+    sym (not-true _ (sym c.ne.ensures ∙ c.if-ne.true))
+    ∙ some-row (fixed_in deck c.args.schema.now c.args.elements.now) c.args.p.0 c.args.e.0 c.element_depth.ensures c.element_depth-2.ensures c.if-element_depth.false
+    c.element_type-t.ensures c.element_name.ensures (found-at c.row_again.ensures c.in_ok-i.was) c.row_child.ensures c.element_type.ensures
 
-pub row_child-c-requires : goal.row_child-c-requires
-row_child-c-requires c =
-    let h = found_within c.row_again.ensures c.in-At.is in
-    search rules
+pub returns-clause-by_index : goal.returns-clause-by_index
+returns-clause-by_index c =
+    λ deck.
+    sym (not-false _ (sym c.ne.ensures ∙ c.if-ne.false))
+    ∙ some-row (fixed_in deck c.args.schema.now c.args.elements.now) c.args.p.0 c.args.e.0 c.element_depth.ensures c.element_depth-2.ensures c.if-element_depth.false
+    c.element_type-t.ensures c.element_name.ensures (found-at c.row_again.ensures c.in_ok-i.was) c.row_child.ensures c.element_type.ensures
 
-pub returns : goal.returns
-returns c =
-    let f = found-at c.row_again.ensures c.in-At.is in record { by_index = λ deck. some-row (fixed_in deck c.args.schema.now c.args.elements.now) c.args.p.0 c.args.e.0 c.element_depth.ensures c.element_depth-2.ensures c.if-element_depth.false c.element_type-t.ensures c.element_name-n.ensures f c.row_child-c.ensures c.element_type-u.ensures; found_row_2 = found-row (schema_of c.args.schema.now) _ _ _ f }
+pub returns-clause-found_row_2 : goal.returns-clause-found_row_2
+returns-clause-found_row_2 c = found-row (schema_of c.args.schema.now) _ _ _ (found-at c.row_again.ensures c.in_ok-i.was)

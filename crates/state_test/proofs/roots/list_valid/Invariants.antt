@@ -14,5 +14,3 @@ invariant-loop-i l =
     ((deck : List ℕ) → all_of (item_valid (fixed_in deck l.schema l.elements) l.p) (drop l.i (list_of (model_of l.model) l.p)) ≡ all_of (item_valid (fixed_in deck l.schema l.elements) l.p) (list_of (model_of l.model) l.p))
     × FoundRow (schema_of l.schema) l.last
 
-abbrev pub decreases-loop-i : goal.decreases-loop-i
-decreases-loop-i l = l.n - l.i

@@ -12,5 +12,3 @@ invariant-loop-p l =
     ((deck : List ℕ) → lists_valid (fixed_in deck l.schema l.elements) l.p (drop l.p (model_of l.model).lists) ≡ lists_valid (fixed_in deck l.schema l.elements) 0 (model_of l.model).lists)
     × FoundRow (schema_of l.schema) l.last
 
-abbrev pub decreases-loop-p : goal.decreases-loop-p
-decreases-loop-p l = l.n - l.p

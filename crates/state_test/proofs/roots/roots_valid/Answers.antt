@@ -12,9 +12,6 @@ pub returns-then-not-root_valid : goal.returns-then-not-root_valid
 returns-then-not-root_valid c =
     λ deck schema. roots-stop (fixed_in deck schema c.args.elements.now) (failed (c.root_valid.ensures deck schema) c.if-not-root_valid.true)
 
-pub loop-i-init : goal.loop-i-init
-loop-i-init c = λ deck schema. refl
-
 pub returns-then-not-root_valid-2 : goal.returns-then-not-root_valid-2
 returns-then-not-root_valid-2 c =
     λ deck schema. roots-last (fixed_in deck schema c.args.elements.now) (passed (c.root_valid.ensures deck schema) c.if-not-root_valid.false) (sym (all-stop (λ (t : Tree). root_valid (fixed_in deck schema c.args.elements.now) t.root) (elements_of c.args.elements.now).trees c.loop-i.i no_tree (search rules) (failed (c.root_valid-in-loop-i.ensures deck schema ∙ ap (root_valid (fixed_in deck schema c.args.elements.now)) c.tree_root.ensures) c.if-not-root_valid-2.true)) ∙ (c.loop-i.invariant deck schema))

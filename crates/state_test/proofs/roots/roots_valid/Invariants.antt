@@ -11,5 +11,3 @@ use Rattle.state_test.proofs.roots.roots_valid.Given as goal
 abbrev pub invariant-loop-i : goal.invariant-loop-i
 invariant-loop-i l = (deck schema : List ℕ) → all_of (λ (t : Tree). root_valid (fixed_in deck schema l.elements) t.root) (drop l.i (elements_of l.elements).trees) ≡ all_of (λ (t : Tree). root_valid (fixed_in deck schema l.elements) t.root) (elements_of l.elements).trees
 
-abbrev pub decreases-loop-i : goal.decreases-loop-i
-decreases-loop-i l = l.n - l.i

@@ -8,9 +8,6 @@ use Rattle.state_test.proofs.Laws.Schemas.{group_rules, with_groups, group-rule-
 use borrow.Author.Rules.{rules}
 use Rattle.state_test.proofs.schema.groups_valid.Goals as goal
 
-pub loop-i-init : goal.loop-i-init
-loop-i-init c = refl
-
 pub group_rule-requires : goal.group_rule-requires
 group_rule-requires c =
     let sc = schema_of c.args.schema.now in

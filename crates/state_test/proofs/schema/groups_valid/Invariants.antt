@@ -10,5 +10,3 @@ abbrev pub invariant-loop-i : goal.invariant-loop-i
 invariant-loop-i l =
     groups_valid (with_groups (schema_of l.schema) (take l.i (schema_of l.schema).groups)) (drop l.i (schema_of l.schema).groups) ≡ groups_valid (types_alone (schema_of l.schema)) (schema_of l.schema).groups
 
-abbrev pub decreases-loop-i : goal.decreases-loop-i
-decreases-loop-i l = l.n - l.i

@@ -12,5 +12,3 @@ invariant-loop-i l =
     (rows_valid (with_rows (schema_of l.schema) (take l.i (schema_of l.schema).sub_elements)) (drop l.i (schema_of l.schema).sub_elements) ≡ rows_valid (without_rows (schema_of l.schema)) (schema_of l.schema).sub_elements)
     × PathsClosed (rows_above (schema_of l.schema) l.i)
 
-abbrev pub decreases-loop-i : goal.decreases-loop-i
-decreases-loop-i l = l.n - l.i
