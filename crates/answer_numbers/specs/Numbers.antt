@@ -3,8 +3,7 @@
 use Rattle.std.specs.Prelude.{true, false, List, [], ◌∷◌, ℕ, eqb, length}
 use Rattle.std.proofs.Math.Option.{Option, none, some}
 use Rattle.tables.specs.LogTable.{log_of}
-use Rattle.load.specs.declared.load.Answer.{Answer}
-use Rattle.load.specs.declared.load.Answer.TheVariants.{Loaded, Refused}
+use Rattle.load.specs.LoadCall.{Answer, Loaded, Refused}
 use Rattle.state_test.specs.StateTest.{lent_tables_pass}
 use Rattle.merge_rules.specs.Calls.{MergeAnswer, merged, merge_refused, RangeAnswer, range_is, range_refused, RollbackAnswer, taken_off, rollback_refused}
 use Rattle.merge_rules.specs.Refusals.{Refusal, refusal_fields}

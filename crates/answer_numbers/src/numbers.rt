@@ -1,11 +1,12 @@
 // The answers of the calls as numbers.
 ghost use Rattle.std.specs.Prelude.{◌≡◌};
+ghost use Rattle.load.specs.LoadCall.{load_answer};
 ghost use Rattle.merge_log.specs.Answers.{refusal_is};
 ghost use Rattle.merge.specs.Calls.{range_answer_is, merge_answer_is, rollback_answer_is};
 ghost use Rattle.merge_log.specs.Refusals.{optional_is};
 ghost use Rattle.answer_numbers.specs.Numbers.{numbered, numbers_is, by_answer, refused_by0, accept, refuse, or_zero, refusal_numbers, load_numbers, merge_numbers, range_numbers, rollback_numbers, mark_numbers};
 
-use load::load::Answer;
+use load::refusals::LoadError;
 use merge::calls::{MergeAnswer, RangeAnswer, RollbackAnswer};
 use merge_log::refusals::{Optional, Refusal, refusal_fields};
 use state_test::state::lent_tables_pass;
@@ -83,12 +84,13 @@ fn refusal_numbers(x: Refusal) -> Numbers
     refused(f.number, or_zero(e), or_zero(n))
 }
 
-pub fn load_numbers(a: Answer) -> Numbers
-    ensures { numbers_is result ≡ load_numbers a }
+#[tactic(auto, unfolding(crate::specs::Numbers::load_numbers, load::specs::LoadCall::load_answer))]
+pub fn load_numbers(a: Result<(), LoadError>) -> Numbers
+    ensures { numbers_is result ≡ load_numbers (load_answer a) }
 {
     match a {
-        Answer::Loaded => accepted(0, 0, 0, 0),
-        Answer::Refused(number, line) => refused(number, line, 0),
+        Ok(()) => accepted(0, 0, 0, 0),
+        Err(e) => refused(e.refusal.number(), e.line, 0),
     }
 }
 

@@ -1,6 +1,6 @@
 // The tables as they are lent, to the calls and to the tests.
 use crate::state::{State, output, printed};
-use load::load::{Answer, load};
+use load::load::load;
 use merge::calls::{merge, range, rollback};
 use output::answers::{append_merge, append_range, append_refused_deck, append_rollback};
 use printing::buffer::{Written, append_bytes, append_number};
@@ -65,10 +65,9 @@ fn load_line(
     out: &mut [u8],
     w: Written,
 ) -> Written {
-    let a = load(deck, schema, elements, model, log);
-    match a {
-        Answer::Loaded => append_bytes(out, w, b"loaded\n"),
-        Answer::Refused(number, line) => append_refused_deck(out, w, number, line),
+    match load(deck, schema, elements, model, log) {
+        Ok(()) => append_bytes(out, w, b"loaded\n"),
+        Err(e) => append_refused_deck(out, w, e.refusal.number(), e.line),
     }
 }
 

@@ -5,7 +5,7 @@
 ghost use Rattle.std.specs.Prelude.{◌≤◌, length, IfOk};
 
 use deck::fields::{Num, number};
-use load::load::{Answer, load};
+use load::load::load;
 use std::env::FillError;
 use std::fs::File;
 use std::io;
@@ -27,11 +27,7 @@ fn load_once(
 ) -> u64
     ensures { result ≤ 1 }
 {
-    let a = load(deck, schema, elements, model, log);
-    match a {
-        Answer::Loaded => 1,
-        Answer::Refused(_, _) => 0,
-    }
+    load(deck, schema, elements, model, log).is_ok() as u64
 }
 
 // How many of so many loads took the deck.
@@ -44,10 +40,8 @@ fn load_often(
     times: u64,
 ) -> u64 {
     let mut loaded: u64 = 0;
-    let mut i: u64 = 0;
-    while i < times {
+    for _ in 0..times {
         loaded += load_once(deck, schema, elements, model, log);
-        i += 1;
     }
     loaded
 }

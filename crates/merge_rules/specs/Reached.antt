@@ -9,8 +9,7 @@ use Rattle.tables.specs.ModelTable.{flat}
 use Rattle.tables.specs.Records.{Element, FileNumber, FileSet, Version, Tree, child, text, Model, State, Fixed, root}
 use Rattle.deck.specs.Load.{load, Load, loaded, refused_at}
 use Rattle.deck.specs.Schema.{version_of}
-use Rattle.load.specs.LoadCall.{Tables, load_call}
-use Rattle.load.specs.declared.load.Answer.TheVariants.{Loaded}
+use Rattle.load.specs.LoadCall.{Tables, load_call, Loaded}
 use Rattle.state_test.specs.StateTest.{fixed_in, state_in}
 use Rattle.merge_rules.specs.Book.{Call}
 use Rattle.merge_rules.specs.Import.{import_new_items}

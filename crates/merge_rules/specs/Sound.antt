@@ -10,8 +10,7 @@ use Rattle.tables.specs.Limits.{element_limit, depth_limit, item_limit, log_limi
 use Rattle.tables.specs.Records.{Element, Name, TypeNumber, SubElement, Tree, Item, child, text, Entry, import, restriction, extension, State, Fixed, root, name_of, type_of, depth_of, parent_of, set_of, list_of, content_items}
 use Rattle.deck.specs.Load.{load, loaded}
 use Rattle.deck.specs.Schema.{declared_files, declares_file, row_of_name}
-use Rattle.load.specs.LoadCall.{Tables, encoded, load_call}
-use Rattle.load.specs.declared.load.Answer.TheVariants.{Loaded}
+use Rattle.load.specs.LoadCall.{Tables, encoded, load_call, Loaded}
 use Rattle.state_test.specs.StateTest.{lent_tables_pass}
 use Rattle.merge_rules.specs.Book.{Call}
 use Rattle.merge_rules.specs.Pairing.{children}

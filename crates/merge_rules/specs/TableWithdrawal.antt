@@ -2,8 +2,7 @@
 use Rattle.std.specs.Prelude.{Bool, true, false, List, [], ◌∷◌, ◌++◌, ◌≡◌, ℕ, length}
 use Rattle.tables.specs.Lists.{any_of, sum}
 use Rattle.tables.specs.LogTable.{log_of}
-use Rattle.load.specs.LoadCall.{Tables, tables_of, load_call}
-use Rattle.load.specs.declared.load.Answer.TheVariants.{Loaded}
+use Rattle.load.specs.LoadCall.{Tables, tables_of, load_call, Loaded}
 use Rattle.merge_rules.specs.Book.{Call, call_merge, call_rollback, call_range, Answer, of_merge, of_rollback, of_range}
 use Rattle.merge_rules.specs.Calls.{taken_off}
 use Rattle.merge_rules.specs.TableCalls.{CallAnswer, bad_tables, answered, CallResult, merge_call, rollback_call, range_call}

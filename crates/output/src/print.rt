@@ -12,7 +12,7 @@ ghost use Rattle.output.specs.Replies.{Shows, run_lines, run_output};
 use crate::answers::append_refused_deck;
 use crate::reply::{reply, reply_merge};
 use deck::lines::line_end;
-use load::load::{Answer, load};
+use load::load::load;
 use printing::buffer::{Written, append_bytes, append_number};
 use printing::trees::append_model;
 use requests::requests::{Request, read_request};
@@ -122,9 +122,8 @@ fn print_run(deck: &[u8], calls: &[u8], listed: bool, from: usize, out: &mut [u8
         skip: from,
         count: 0,
     };
-    let a = load(deck, &mut schema, &mut elements, &mut model, &mut log);
-    if let Answer::Refused(number, line) = a {
-        return append_refused_deck(out, w, number, line).count;
+    if let Err(e) = load(deck, &mut schema, &mut elements, &mut model, &mut log) {
+        return append_refused_deck(out, w, e.refusal.number(), e.line).count;
     }
     run(
         deck, &schema, &elements, &mut model, &mut log, calls, listed, out, w,

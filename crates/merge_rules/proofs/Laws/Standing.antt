@@ -7,8 +7,7 @@ use Prim.Native.Nat.{ℕ}
 use native.Mathlib.Omega.{arith}
 use Rattle.tables.specs.Records.{Element, Name, FileNumber, Version, Fixed, State}
 use Rattle.deck.specs.Load.{Load, loaded, refused_at, load}
-use Rattle.load.specs.LoadCall.{Tables, tables_of, encoded, LoadResult, load_result, sizes_fit, load_into, load_call}
-use Rattle.load.specs.declared.load.Answer.TheVariants.{Loaded, Refused}
+use Rattle.load.specs.LoadCall.{Tables, tables_of, encoded, LoadResult, load_result, sizes_fit, load_into, load_call, Loaded, Refused}
 use Rattle.state_test.specs.StateTest.{lent_tables_pass, fixed_in, state_in}
 use Rattle.merge_rules.specs.Book.{call_merge, call_rollback, call}
 use Rattle.merge_rules.specs.Calls.{MergeAnswer, merge, RangeAnswer, range, RollbackAnswer, rollback}

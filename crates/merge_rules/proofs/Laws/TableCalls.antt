@@ -17,8 +17,7 @@ use Rattle.tables.proofs.Laws.LogTable.{log_back}
 use Rattle.tables.proofs.Laws.ModelTable.{decode-encode}
 use Rattle.tables.proofs.Laws.SchemaTable.{schema-back}
 use Rattle.deck.specs.Load.{Load, loaded, refused_at, load}
-use Rattle.load.specs.LoadCall.{Tables, encoded, LoadResult, sizes_fit, load_into, load_call}
-use Rattle.load.specs.declared.load.Answer.TheVariants.{Loaded}
+use Rattle.load.specs.LoadCall.{Tables, encoded, LoadResult, sizes_fit, load_into, load_call, Loaded}
 use Rattle.state_test.specs.StateTest.{fixed_in, state_in}
 use Rattle.merge_rules.specs.Book.{Call, call_merge, call_rollback, call_range, of_rollback, call}
 use Rattle.merge_rules.specs.Calls.{merge, range, RollbackAnswer, rollback}

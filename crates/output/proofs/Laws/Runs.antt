@@ -16,9 +16,7 @@ use Rattle.deck.specs.Answers.{part_at, Next}
 use Rattle.deck.specs.Deck.{Part, parts, lines}
 use Rattle.deck.specs.Load.{loaded, refused_at, load}
 use Rattle.deck.proofs.Laws.Parts.{parts-some, between_cons, next-line, last_line}
-use Rattle.load.specs.LoadCall.{Tables, load_result, sizes_fit, load_call}
-use Rattle.load.specs.declared.load.Answer.{Answer}
-use Rattle.load.specs.declared.load.Answer.TheVariants.{Loaded, Refused}
+use Rattle.load.specs.LoadCall.{Tables, load_result, sizes_fit, load_call, Answer, Loaded, Refused}
 use Rattle.state_test.specs.StateTest.{fixed_in, state_in}
 use Rattle.merge_rules.specs.Book.{call_merge}
 use Rattle.merge_rules.specs.CallLists.{Request, of_call, read_request, reply, bad_call, call_lines, calls_output_of}
