@@ -1,18 +1,20 @@
-use mathlib.Core.Path.{refl}
-use Rattle.load.specs.LoadCall.{sizes_fit}
+use mathlib.Core.Path.{refl, ap}
+use Rattle.load.specs.LoadCall.{sizes_fit, load_answer}
 use Rattle.output.proofs.Laws.Runs.{refused-run, loaded-run, loaded-stands}
 use Rattle.output.proofs.print.print_run.Goals as goal
 
-pub returns-in-Refused : goal.returns-in-Refused
-unfolding sizes_fit
-returns-in-Refused c =
-    refused-run c.args.deck.now c.args.calls.now c.args.listed c.args.from c.args.out.now _ c.load-a.ensures refl c.in-Refused.is
-    c.append_refused_deck.ensures
+pub returns-in-Err : goal.returns-in-Err
+unfolding sizes_fit load_answer
+returns-in-Err c =
+    refused-run c.args.deck.now c.args.calls.now c.args.listed c.args.from c.args.out.now _ c.load.ensures refl (ap load_answer c.in-Err.is)
+    (rw c.number.ensures at c.append_refused_deck.ensures)
 
 pub run-requires : goal.run-requires
-run-requires c = loaded-stands c.args.deck.now _ c.load-a.ensures c.in_default.is
+unfolding load_answer
+run-requires c = loaded-stands c.args.deck.now _ c.load.ensures (ap load_answer c.in_default.is)
 
 pub returns : goal.returns
+unfolding load_answer
 returns c =
-    loaded-run c.args.deck.now c.args.calls.now c.args.listed c.args.from c.args.out.now _ c.load-a.ensures c.in_default.is
+    loaded-run c.args.deck.now c.args.calls.now c.args.listed c.args.from c.args.out.now _ c.load.ensures (ap load_answer c.in_default.is)
     c.run.ensures
