@@ -37,10 +37,6 @@ use Rattle.table_test.specs.Fits.{ModelOver}
 
 -- ---- a move, by numbers
 
-pub equal-any : (first index : ℕ) → move first (index + 1) ≡ equal_path any first index
-unfolding equal_path
-equal-any first index = rw (add-one index)
-
 module _ (mode : ℕ) (mult : program_mult.Mult) (first index : ℕ) {order : program_order.Ordering} where
   module _ (m : mode ≡ 0) where
     pub sequence-less : order ≡ Less → stop ≡ move_by (mode_from mode) (ordering_is order) (mult_is mult) first index
@@ -88,10 +84,10 @@ order-back Ordering.lt = refl
 order-back Ordering.eq = refl
 order-back Ordering.gt = refl
 
-move-back : (m : Mode) (o : Ordering) (k : Mult) (first index : ℕ) {mode : ℕ} {mult : program_mult.Mult} {order : program_order.Ordering}
+move-back : (m : Mode) (o : Ordering) (k : Mult) (first index : ℕ) {mode : ℕ} (mult : program_mult.Mult) {order : program_order.Ordering}
     → mode ≡ mode_number m → order ≡ order_of o → mult_is mult ≡ k
     → move_by (mode_from mode) (ordering_is order) (mult_is mult) first index ≡ move_by m o k first index
-move-back m o k first index hm ho hk = rw (hm, ho, hk, mode-back m, order-back o)
+move-back m o k first index mult hm ho hk = rw (hm, ho, hk, mode-back m, order-back o)
 
 -- ---- one item, by how the elements of its name stand to the new one
 
@@ -125,7 +121,7 @@ module _ (schema : List ℕ) (t new n : ℕ) where
       record {
         is = λ f p e mult index b hs ht hn hk.
             let k : row_of_name f.schema (type_of f p) (name_of f e) ≡ some old = rw (hs, ← ht, ← hn) h in
-            move-back _ _ _ b.first index hm hr hk ∙ rw (move_at, k, hp, ho, ht, hs);
+            move-back _ _ _ b.first index _ hm hr hk ∙ rw (move_at, k, hp, ho, ht, hs);
       }
 
 -- ---- the items from place i on, by the move of item i
@@ -136,7 +132,7 @@ pub record ItemRead (x : Fixed) (p : ℕ) (new : SubElement) (l : List Item) (i 
   pub is : move_at x p new (get_or l i (child 0)) i b.first b.last ≡ move_is m
   pub moved : b' ≡ bounds_after m b
 
-module _ (deck schema elements : List ℕ) (p : ℕ) {t : ℕ} (ht : t ≡ type_of (fixed_in deck schema elements) p) (new : ℕ) {mult : program_mult.Mult}
+module _ (deck schema elements : List ℕ) (p : ℕ) {t : ℕ} (ht : t ≡ type_of (fixed_in deck schema elements) p) (new : ℕ) (mult : program_mult.Mult)
     (hm : mult_is mult ≡ (get_or (schema_of schema).sub_elements new no_sub_element).mult) {n : ℕ} {s : Option Against} (compares : Compares schema t new n s) (last : ℕ) where
   item-moves : (a : Item) → n ≡ name_or elements last a → (index : ℕ) (b : Bounds)
       → move_of a s mult index b ≡ move_at (fixed_in deck schema elements) p (get_or (schema_of schema).sub_elements new no_sub_element) a index b.first b.last

@@ -72,7 +72,7 @@ read : (c : After-lend_bounds-s) (deck : List ℕ) → ItemRead (fixed_in deck c
 read c deck =
     let a = c.args in
     let k = now-named c in
-    item-read deck a.schema.now a.elements.now a.p.0 c.element_type-t.ensures a.new c.row_mult-mult.ensures k.compares c.loop-i.name.0
+    item-read deck a.schema.now a.elements.now a.p.0 c.element_type-t.ensures a.new _ c.row_mult-mult.ensures k.compares c.loop-i.name.0
     (list_of (model_of a.model.now) a.p.0) c.loop-i.i (search rules) (item_is c.item_at-a.result) c.item_at-a.ensures k.named c.lend_bounds-s.ensures
 
 pub returns-in-Stop : goal.returns-in-Stop
