@@ -15,6 +15,7 @@ ghost use Rattle.pairing.specs.Keys.{KeyMarks};
 use crate::keys::{is_identifiable, key_of, sole_text, stored_text};
 use crate::sibling::{same_key, sibling};
 use schema_calls::calls::row_of_name;
+use std::cmp::Ordering;
 use tables::elements::element_name;
 use tables::numbers::{Element, Name, TypeNumber};
 use tables::path::Path;
