@@ -23,7 +23,7 @@ use tables::schema::row_path;
 use tables::text::same_text;
 
 // Both cursors; A with a B sibling; A only; B only; refusal 6 with the A parent.
-#[derive(Clone, Copy)]
+#[derive(Clone, Copy, PartialEq, Eq)]
 pub enum Action {
     MergeEqual,
     MergeUnequal(Element),

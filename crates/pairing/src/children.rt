@@ -24,12 +24,10 @@ pub fn copy_rows<const WIDTH: usize>(model: &[u64], e: Element, work: &mut [u16]
         let Item::Child(x) = item_at(model, e, i) else {
             continue;
         };
-        let number = x.0;
         let at = WIDTH * k;
-        work[at] = number as u16;
+        work[at] = x.0 as u16;
         for c in 1..WIDTH {
-            let cell = at + c;
-            work[cell] = 0;
+            work[at + c] = 0;
         }
         k += 1;
     }

@@ -56,14 +56,14 @@ impl Use {
 }
 
 // A plan: how many rows of A, and of the B-only list.
-#[derive(Clone, Copy)]
+#[derive(Clone, Copy, PartialEq, Eq)]
 pub struct Rows {
     pub first: usize,
     pub new: usize,
 }
 
 // Refusal 8 with the B child; refusal 6.
-#[derive(Clone, Copy)]
+#[derive(Clone, Copy, PartialEq, Eq)]
 pub enum Unplanned {
     UsedTwice(Element),
     Unmergeable,

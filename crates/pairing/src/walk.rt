@@ -172,7 +172,7 @@ fn walk(
         );
         marked = next.marked;
         let act = next.act;
-        if let Action::UnmergeableParent = act {
+        if act == Action::UnmergeableParent {
             return Err(Unplanned::Unmergeable);
         }
         c = advance(work, &mut uses, s, c, act);

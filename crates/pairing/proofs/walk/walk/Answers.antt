@@ -9,6 +9,7 @@ use Rattle.merge_rules.specs.Pairing.{action_of}
 use Rattle.pairing.specs.Walks.{second_children}
 use Rattle.pairing.proofs.Laws.Levels.{step_in, walk_start, walk_turn, next-kept, walk_kept, walk_refused, walk-answer}
 use Rattle.pairing.proofs.Laws.Marks.{marked-kept}
+use borrow.Author.Rules.{rules}
 use Rattle.pairing.proofs.walk.walk.Goals as goal
 
 pub loop-c-init : goal.loop-c-init
@@ -23,17 +24,17 @@ pub next_action-next-requires : goal.next_action-next-requires
 next_action-next-requires c =
     let s = c.args.s in record { good_fixed = c.requires.good_fixed; model_over = c.requires.model_over; t_in_bounds = c.requires.t_in_bounds; work_room = c.loop-c.invariant.0.room; ranged = c.loop-c.invariant.0.ranged; marked_if = c.loop-c.invariant.1; a_lt_rows = c.loop-c-test.true }
 
-pub shape_of-work-in-UnmergeableParent : goal.shape_of-work-in-UnmergeableParent
-shape_of-work-in-UnmergeableParent c =
+pub shape_of-work-then-eq : goal.shape_of-work-then-eq
+shape_of-work-then-eq c =
     c.next_action-next.auto.work ∙ c.loop-c.invariant.2
 
-pub returns-in-UnmergeableParent : goal.returns-in-UnmergeableParent
-returns-in-UnmergeableParent c =
+pub returns-then-eq : goal.returns-then-eq
+returns-then-eq c =
     let s = c.args.s in
     let x = fixed_in c.args.deck.now c.args.schema.now c.args.elements.now in
     let m = model_of c.args.model.now in
     let act = action_of x m c.args.t.0 c.args.splittable in
-    let n = length (elements_of c.args.elements.now).names in record { work_after = walk_refused act n s c.args.work.now c.loop-c.work c.loop-c.uses c.loop-c.c.a c.loop-c.c.b c.loop-c.c.new c.loop-c.invariant.0 c.args.end c.next_action-next.result.act c.loop-c-test.true c.next_action-next.ensures.acts c.in-UnmergeableParent.is; plan_in = tt }
+    let n = length (elements_of c.args.elements.now).names in record { work_after = walk_refused act n s c.args.work.now c.loop-c.work c.loop-c.uses c.loop-c.c.a c.loop-c.c.b c.loop-c.c.new c.loop-c.invariant.0 c.args.end c.next_action-next.result.act c.loop-c-test.true c.next_action-next.ensures.acts (search rules); plan_in = tt }
 
 pub advance-c-requires : goal.advance-c-requires
 advance-c-requires c =
@@ -56,7 +57,7 @@ advance-c-requires c =
       a_lt_rows = c.loop-c-test.true;
       step_in =
           step_in n (act (second_children s l.work)) s l.work i j new next.result.act
-          c.requires.good_fixed.elements_good.sized.count l.invariant.0.room c.in_default.not-UnmergeableParent next.ensures.acts;
+          c.requires.good_fixed.elements_good.sized.count l.invariant.0.room (search rules) next.ensures.acts;
     }
 
 pub loop-c-smaller : goal.loop-c-smaller
