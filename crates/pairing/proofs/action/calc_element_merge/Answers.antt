@@ -5,9 +5,6 @@ use Rattle.state_test.specs.StateTest.{fixed_in}
 use Rattle.pairing.proofs.Laws.Actions.{defined-sibling, defined-none}
 use Rattle.pairing.proofs.action.calc_element_merge.Goals as goal
 
-pub sibling-found-requires : goal.sibling-found-requires
-sibling-found-requires c = record { good_fixed = c.requires.good_fixed; model_over = c.requires.model_over; listed = c.requires.listed; key_marks = c.requires.key_marks; a_in_bounds = c.requires.a_in_bounds; keys = c.key_of-key.ensures }
-
 pub returns-in-Some : goal.returns-in-Some
 returns-in-Some c =
     let n = length (elements_of c.args.elements.now).names in

@@ -19,9 +19,6 @@ loop-i-preserved-in_default c =
     let n = length (elements_of c.args.elements.now).names in
     definition-text x m c.args.e.0 n c.loop-i.i c.loop-i.invariant (search rules) c.item_at.ensures c.in_default.is
 
-pub element_name-n-requires : goal.element_name-n-requires
-element_name-n-requires c = record { good_elements = c.requires.good_fixed.elements_good; e_in_bounds = child-in c.requires.model_over c.args.e.0 c.loop-i.i (search rules) c.item_at.ensures c.in-Child.is }
-
 pub returns-then-eq : goal.returns-then-eq
 returns-then-eq c =
     let x = fixed_in c.args.deck.now c.args.schema.now c.args.elements.now in
@@ -43,3 +40,6 @@ returns c =
     let m = model_of c.args.model.now in
     let n = length (elements_of c.args.elements.now).names in
     definition-end x m c.args.e.0 n c.loop-i.i c.loop-i.invariant (search rules)
+
+pub element_name-n-requires-clause-e_in_bounds : goal.element_name-n-requires-clause-e_in_bounds
+element_name-n-requires-clause-e_in_bounds c = child-in c.requires.model_over c.args.e.0 c.loop-i.i (search rules) c.item_at.ensures c.in-Child.is

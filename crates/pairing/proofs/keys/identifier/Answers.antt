@@ -2,12 +2,9 @@ use lib.ListN.{length}
 use Rattle.tables.specs.ElementsTable.{elements_of}
 use Rattle.tables.specs.ModelTable.{model_of}
 use Rattle.state_test.specs.StateTest.{fixed_in}
-use Rattle.pairing.proofs.Laws.Keys.{element-type-in, child-in, identifier-unnamed, identifier-empty, identifier-text, identifier-other, identifier-is}
+use Rattle.pairing.proofs.Laws.Keys.{child-in, identifier-unnamed, identifier-empty, identifier-text, identifier-other, identifier-is}
 use borrow.Author.Rules.{rules}
 use Rattle.pairing.proofs.keys.identifier.Goals as goal
-
-pub type_named-requires : goal.type_named-requires
-type_named-requires c = record { good_schema = c.requires.good_fixed.schema_tested.good; t_in_bounds = element-type-in c.requires.good_fixed c.args.e.0 c.requires.e_in_bounds c.element_type-t.ensures }
 
 pub returns-then-not-type_named : goal.returns-then-not-type_named
 returns-then-not-type_named c =
@@ -30,9 +27,6 @@ returns-in_default c =
     let n = length (elements_of c.args.elements.now).names in
     identifier-text n x m c.args.e.0 c.element_type-t.ensures c.type_named.ensures c.if-not-type_named.false c.list_length.ensures c.if-list_length-eq0.false c.item_at.ensures c.in_default.is
 
-pub element_name-n-requires : goal.element_name-n-requires
-element_name-n-requires c = record { good_elements = c.requires.good_fixed.elements_good; e_in_bounds = child-in c.requires.model_over c.args.e.0 0 (search rules) c.item_at.ensures c.in-Child.is }
-
 pub returns-then-ne : goal.returns-then-ne
 returns-then-ne c =
     let x = fixed_in c.args.deck.now c.args.schema.now c.args.elements.now in
@@ -47,3 +41,6 @@ returns c =
     let n = length (elements_of c.args.elements.now).names in
     let h = child-in c.requires.model_over c.args.e.0 0 (search rules) c.item_at.ensures c.in-Child.is in
     identifier-is n x m c.args.e.0 c.element_type-t.ensures c.type_named.ensures c.if-not-type_named.false c.list_length.ensures c.if-list_length-eq0.false c.item_at.ensures c.in-Child.is c.element_name-n.ensures (search rules) h
+
+pub element_name-n-requires-clause-e_in_bounds : goal.element_name-n-requires-clause-e_in_bounds
+element_name-n-requires-clause-e_in_bounds c = child-in c.requires.model_over c.args.e.0 0 (search rules) c.item_at.ensures c.in-Child.is

@@ -1,16 +1,7 @@
-use native.Mathlib.Omega.{arith}
 use Rattle.tables.specs.ModelTable.{model_of}
 use Rattle.state_test.specs.StateTest.{fixed_in}
-use Rattle.pairing.proofs.Laws.Rows.{second-front}
 use Rattle.pairing.proofs.Laws.Marks.{marked}
 use Rattle.pairing.proofs.marks.mark_children.Goals as goal
-
-pub mark_keys-requires : goal.mark_keys-requires
-mark_keys-requires c = record { good_fixed = c.requires.good_fixed; model_over = c.requires.model_over; listed = c.requires.listed; start_le_end = (c.requires.mark_room.order, omega arith, omega (arith, c.requires.mark_room.within)) }
-
-pub mark_keys-requires-2 : goal.mark_keys-requires-2
-mark_keys-requires-2 c =
-    let same = second-front c.args.s c.args.work.now c.mark_keys.new.work c.requires.mark_room.order (omega (arith, c.requires.mark_room.within)) c.mark_keys.auto.work c.mark_keys.ensures.front in record { good_fixed = c.requires.good_fixed; model_over = c.requires.model_over; listed = rw same c.requires.listed; start_le_end = (c.requires.mark_room.order, omega arith, omega (arith, c.requires.mark_room.within, c.mark_keys.auto.work)) }
 
 pub returns : goal.returns
 returns c =

@@ -1,46 +1,8 @@
 use mathlib.Core.Path.{refl}
-use Prim.Native.Nat.{◌+◌}
 use native.Mathlib.Omega.{arith}
-use Rattle.pairing.proofs.Laws.Steps.{child-small, step-equal, step-unequal, step-second, step-never, walks-second}
+use Rattle.pairing.proofs.Laws.Steps.{step-equal, step-unequal, step-never, walks-second}
 use Rattle.pairing.proofs.Laws.Ways.{walks-equal, walks-unequal, walks-first}
 use Rattle.pairing.proofs.plan.advance.Goals as goal
-
-pub bounds-work-at : goal.bounds-work-at
-bounds-work-at c =
-    let s = c.args.s in
-    let i = c.args.c.a in
-    let j = c.args.c.b in
-    let k = c.args.c.new in
-    let l = step-equal s j c.args.act c.requires.step_in c.in-MergeEqual.is in
-    omega (arith, l, c.requires.work_room.within)
-
-pub overflow_cast-e : goal.overflow_cast-e
-overflow_cast-e c =
-    omega (arith, c.slice_known-in-MergeEqual-1.given (c.args.s.start + c.args.c.b))
-
-pub pair_row-requires : goal.pair_row-requires
-pair_row-requires c =
-    let s = c.args.s in
-    let i = c.args.c.a in
-    let j = c.args.c.b in
-    let k = c.args.c.new in
-    let l = step-equal s j c.args.act c.requires.step_in c.in-MergeEqual.is in
-    let small = child-small s c.args.work.now i j k j c.requires.work_room l in record { i_in_bounds = omega (arith, c.requires.a_lt_rows, c.requires.work_room.behind, c.requires.work_room.within, l); e_lt_element_limit = small; e_in_bounds = omega (arith, small, c.requires.counted.size) }
-
-pub pair_row-requires-in-MergeUnequal : goal.pair_row-requires-in-MergeUnequal
-pair_row-requires-in-MergeUnequal c =
-    let s = c.args.s in
-    let i = c.args.c.a in
-    let j = c.args.c.b in
-    let k = c.args.c.new in
-    let small = step-unequal s j c.args.act c.requires.step_in _ c.in-MergeUnequal.is in record { i_in_bounds = omega (arith, c.requires.a_lt_rows, c.requires.work_room.behind, c.requires.work_room.within, c.requires.work_room.second); e_lt_element_limit = small; e_in_bounds = omega (arith, small, c.requires.counted.size) }
-
-pub import_next-new-requires : goal.import_next-new-requires
-import_next-new-requires c =
-    let s = c.args.s in
-    let i = c.args.c.a in
-    let j = c.args.c.b in
-    let k = c.args.c.new in record { work_room = c.requires.work_room; counted = c.requires.counted; b_bound = step-second s j c.args.act c.requires.step_in c.in-BOnly.is; position_le_item_limit = omega (arith, c.requires.work_room.first, c.requires.work_room.few_first) }
 
 pub returns-in-MergeEqual : goal.returns-in-MergeEqual
 returns-in-MergeEqual c =

@@ -1,20 +1,9 @@
-use mathlib.Core.Path.{◌≡◌, refl, ◌∙◌}
+use mathlib.Core.Path.{◌≡◌, ◌∙◌}
 use Prim.Native.Nat.{◌-◌}
 use native.Mathlib.Omega.{arith}
 use Rattle.pairing.proofs.Laws.Steps.{passes-left}
-use Rattle.pairing.proofs.Laws.Ways.{walks-none, walks-then}
+use Rattle.pairing.proofs.Laws.Ways.{walks-then}
 use Rattle.pairing.proofs.plan.import_rest.Goals as goal
-
-pub overflow_sub-n : goal.overflow_sub-n
-overflow_sub-n c = omega (arith, c.requires.work_room.second)
-
-pub loop-b-init : goal.loop-b-init
-loop-b-init c =
-    (walks-none c.args.s _ _ c.args.work.now c.args.c.a c.args.c.b c.args.c.new c.args.uses.now c.requires.work_room c.requires.counted, refl, refl)
-
-pub import_next-new-requires : goal.import_next-new-requires
-import_next-new-requires c =
-    let i = c.loop-b.invariant.0 in record { work_room = i.room; counted = i.counted; b_bound = omega (arith, c.requires.work_room.second, c.loop-b-test.true); position_le_item_limit = c.requires.position_le_item_limit }
 
 pub loop-b-preserved : goal.loop-b-preserved
 loop-b-preserved c = (

@@ -1,15 +1,14 @@
 use mathlib.Core.Bool.{Bool}
 use mathlib.Core.List.{List}
-use mathlib.Core.Path.{◌≡◌, refl, ◌∙◌}
+use mathlib.Core.Path.{◌≡◌, ◌∙◌}
 use Prim.Native.Nat.{ℕ}
-use native.Mathlib.Omega.{arith}
 use lib.ListN.{drop}
 use Rattle.tables.specs.Lists.{first_of}
 use Rattle.tables.specs.ModelTable.{model_of}
 use Rattle.state_test.specs.StateTest.{fixed_in}
 use Rattle.pairing.specs.Keys.{Key, key_is, key_by, has_key}
 use Rattle.pairing.proofs.Laws.Marks.{marks-past}
-use Rattle.pairing.proofs.Laws.Siblings.{span_fits, siblings-end, siblings-next, siblings-found, sibling-is, skipped, compared-more, compared-start, bytes-unequal, bytes-equal}
+use Rattle.pairing.proofs.Laws.Siblings.{siblings-end, siblings-next, siblings-found, sibling-is, skipped, compared-more, bytes-unequal, bytes-equal}
 use borrow.Author.Rules.{rules}
 use Rattle.pairing.proofs.sibling.sibling.Goals as goal
 
@@ -18,29 +17,10 @@ abbrev fits : List ℕ → List ℕ → List ℕ → List ℕ → Bool → ℕ �
 fits deck schema elements model by_name n key =
     has_key (fixed_in deck schema elements) (key_by by_name (fixed_in deck schema elements) (model_of model)) n (key_is deck key)
 
-pub key_mark-mark-requires : goal.key_mark-mark-requires
-key_mark-mark-requires c = c.requires.keys.within
-
-pub siblings-init : goal.siblings-init
-siblings-init c = (omega arith, refl)
-
-pub next_marked-at-requires : goal.next_marked-at-requires
-next_marked-at-requires c = rw c.requires.key_marks.size c.siblings.invariant.0
-
-pub overflow_cast-b : goal.overflow_cast-b
-overflow_cast-b c = omega (arith, c.shared_slice_known-in-siblings-1.given c.next_marked-at.result)
-
-pub candidate_at-requires : goal.candidate_at-requires
-candidate_at-requires c = record { good_fixed = c.requires.good_fixed; model_over = c.requires.model_over; key_in = c.requires.keys.within; b_in_bounds = c.requires.listed c.next_marked-at.result c.if-second-at.false }
-
 pub siblings-preserved-in_default : goal.siblings-preserved-in_default
 siblings-preserved-in_default c = let passed_0 : let t = fits c.args.deck.now c.args.schema.now c.args.elements.now c.args.model.now c.args.by_name c.element_name-n.result.0 c.args.key in
     first_of t (drop c.next_marked-at.result c.args.second.now) ≡ first_of t c.args.second.now = let x = fixed_in c.args.deck.now c.args.schema.now c.args.elements.now in
     marks-past x (key_by c.args.by_name x (model_of c.args.model.now)) c.element_name-n.result.0 (key_is c.args.deck.now c.args.key) c.args.second.now c.args.marks.now c.requires.key_marks c.key_mark-mark.ensures c.next_marked-at.ensures.no_mark c.siblings.invariant.1 in (search rules, siblings-next _ _ _ passed_0 c.if-second-at.false (skipped c.candidate_at.ensures c.in_default.is))
-
-pub loop-j-init : goal.loop-j-init
-loop-j-init c =
-    compared-start c.candidate_at.ensures c.in-Some.is c.span_of-span.ensures (span_fits c.args.deck.now c.args.key c.requires.keys.within c.span_of-span.ensures)
 
 pub siblings-preserved : goal.siblings-preserved
 siblings-preserved c = let passed_0 : let t = fits c.args.deck.now c.args.schema.now c.args.elements.now c.args.model.now c.args.by_name c.element_name-n.result.0 c.args.key in
