@@ -14,9 +14,6 @@ use Rattle.tables.specs.Records.{Element, Model, Version, Fixed, type_of, list_o
 use Rattle.deck.specs.Schema.{splittable_in}
 use Rattle.merge_rules.specs.Pairing.{Action, merge_equal, Pair, NewItem, Plan, planned, pair_first, action_of, uses, first_used_twice}
 use Rattle.pairing.specs.declared.plan.Sides.{Sides}
-use Rattle.pairing.specs.declared.action.Action as program
-use Rattle.pairing.specs.declared.action.Action.TheVariants.{MergeEqual}
-use Rattle.pairing.specs.Actions.{Acts}
 use Rattle.pairing.specs.Plans.{spread, row_element, row_value, plan_in, level_plan, or_used_twice, checked_plan, plan_level, RowsIn}
 use Rattle.pairing.specs.Walks.{first_children, second_children, walk_on, WorkRoom, Ranged, Laid, Alone}
 use Rattle.pairing.proofs.Laws.Laying.{laid-level}
@@ -24,10 +21,6 @@ use Rattle.pairing.proofs.Laws.Rows.{row-pair}
 use Rattle.pairing.proofs.Laws.Steps.{child-small, child-ranged}
 use Rattle.pairing.proofs.Laws.Uses.{keep-few}
 use Rattle.pairing.proofs.Laws.Walks.{walk_none, on-equal}
-
--- the rule's action where the code's is MergeEqual
-pub equal_is : {n : ℕ} {r : program.Action} {o : Action} → Acts n r o → r ≡ MergeEqual → merge_equal ≡ o
-equal_is h e = rw e at h.is
 
 -- the pair of a and b alone
 abbrev pair_alone : Element → Element → Plan
@@ -82,9 +75,6 @@ module _ (x : Fixed) (m : Model) (s : Sides) (w : List ℕ) (t : ℕ) (al : Alon
 
     pub two_cells : 1 < length w
     two_cells = omega (arith, al.first, al.second, room.within, room.behind)
-
-    pub at-cell : s.start < length w
-    at-cell = omega (arith, al.second, room.within)
 
     pub child-alone : get_or w s.start 0 < element_limit
     child-alone =

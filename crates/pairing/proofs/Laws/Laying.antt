@@ -53,9 +53,6 @@ module _ (xs : List ℕ) (good : GoodModel xs) (e : Element) where
   pub rows_few_lem : (w : List ℕ) (r : ℕ) → CopiedRows 2 w r (children_of (model_of xs) e) → r ≤ length (list_of (model_of xs) e)
   rows_few_lem w r c = omega (arith, length-singles (row_element w) 0 r, ap length c.is, length-children_of)
 
-  pub copied-few : (part : List ℕ) (r : ℕ) → Copied part r (children_of (model_of xs) e) → r ≤ length (list_of (model_of xs) e)
-  copied-few part r c = omega (arith, length-take-le r part c.within, ap length c.is, length-children_of)
-
 -- ---- both lists copied
 
 module _ (w part : List ℕ) (start : ℕ) (fits : start ≤ length w) where

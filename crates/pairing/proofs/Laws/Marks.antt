@@ -53,9 +53,6 @@ marks-past x key n k bs marks f e {i} {j} p left =
 -- ---- marks passed over
 
 module _ {marks : List ℕ} {mark : ℕ} where
-  pub no-mark-here : {k : ℕ} → k ≤ length marks → NoMark marks mark k k
-  no-mark-here h = record { order = omega arith; within = h; none = λ i a b. absurd (omega arith) }
-
   no-mark-join : {from k to : ℕ} → NoMark marks mark from k → NoMark marks mark k to → NoMark marks mark from to
   no-mark-join {from} {k} {to} f g =
       record {
@@ -117,9 +114,6 @@ pub record Marking (key : Element → Option (List ℕ)) (start n at : ℕ) (w�
   pub size : length w ≡ length w₀
   pub front : take at w ≡ take at w₀
   pub cells : (i : ℕ) → i < k → get_or w (at + i) 0 ≡ key_mark (key (get_or (take n (drop start w₀)) i 0))
-
-pub marking-none : (key : Element → Option (List ℕ)) (start n at : ℕ) (w : List ℕ) → Marking key start n at w w 0
-marking-none key start n at w = record { size = refl; front = refl; cells = λ i h. absurd (omega arith) }
 
 module _ {key : Element → Option (List ℕ)} {start n at : ℕ} {w₀ w : List ℕ} {k : ℕ} (m : Marking key start n at w₀ w k) (order : start + n ≤ at) where
   pub element-here : (i : ℕ) → i < n → get_or w (start + i) 0 ≡ get_or (take n (drop start w₀)) i 0

@@ -6,32 +6,22 @@ use mathlib.Core.Path.{◌≡◌, sym, ap, subst, ◌∙◌}
 use Prim.Native.Nat.{ℕ, zero, suc, ◌+◌, ◌-◌, ◌<◌, ◌≤◌}
 use native.Mathlib.Numerals.{add-one}
 use native.Mathlib.Omega.{arith}
-use borrow.Author.Tests.{eq-eqb, ne_eqb}
+use borrow.Author.Tests.{eq-eqb}
 use lib.ListN.{length, get_or, take, drop, drop_of_length-le}
 use lib.Seq.{drop-cons}
 use Rattle.tables.specs.Lists.{first_of, same_list}
 use Rattle.tables.specs.Records.{Element, Place, Fixed, name_of}
 use Rattle.tables.specs.Texts.{bytes_at, place_of, place_in}
 use Rattle.tables.specs.declared.text.Place as code
-use Rattle.tables.proofs.Laws.Texts.{bytes-start, bytes-more, bytes-differ, bytes-end, sizes-differ}
+use Rattle.tables.proofs.Laws.Texts.{bytes-more, bytes-differ, bytes-end, sizes-differ}
 use Rattle.merge_rules.specs.Pairing.{same_key, sibling}
 use Rattle.std.specs.Prelude.{Some, None}
 use Rattle.pairing.specs.Keys.{Key, key_is, KeyIn, Keys, has_key, span_of, Candidate, CandidateIs, Candidates}
 use Rattle.pairing.proofs.Laws.Keys.{first-yes, first-no}
 
-span-in : (deck : List ℕ) (k : Key) → KeyIn deck k → (span_of k).start + (span_of k).size ≤ length deck
-span-in deck (Some p) h = h
-span-in deck None h = omega arith
-
-pub span_fits : (deck : List ℕ) (k : Key) → KeyIn deck k → {p : code.Place} → place_of p ≡ span_of k → p.start + p.size ≤ length deck
-span_fits deck k h e = subst (λ (w : Place). w.start + w.size ≤ length deck) (sym e) (span-in deck k h)
-
 -- ---- one sibling
 
 module _ (x : Fixed) (key : Element → Option (List ℕ)) (n : ℕ) (k : Key) (b : ℕ) {name : ℕ} (en : name ≡ name_of x b) where
-  pub other_name : (name ≡ n → ⊥) → Candidates x.deck (span_of k) (has_key x key n (key_is x.deck k) b) None
-  other_name h = record { is = rw (← en, ne_eqb name n h) }
-
   module _ (same : name ≡ n) {j : Key} (f : Keys x.deck j (key b)) where
     key-decides : has_key x key n (key_is x.deck k) b ≡ same_key (key_is x.deck j) (key_is x.deck k)
     key-decides = rw (← en, eq-eqb name n same, ← f.is)
@@ -113,14 +103,6 @@ module _ {deck : List ℕ} {p : Place} {t : Bool} {r : Candidate} (c : Candidate
   module _ {s : ℕ} (k : r ≡ Some s) {q : code.Place} (e : place_of q ≡ p) where
     test-is : t ≡ same_list (take q.size (drop s deck)) (take q.size (drop q.start deck))
     test-is = (subst (CandidateIs deck p t) k c.is).1 ∙ ap (λ (w : Place). same_list (take w.size (drop s deck)) (take w.size (drop w.start deck))) (sym e)
-
-    pub compared-start : q.start + q.size ≤ length deck → Compared deck s q.start q.size 0
-    compared-start h =
-        record {
-          first = subst (λ (w : Place). s + w.size ≤ length deck) (sym e) (subst (CandidateIs deck p t) k c.is).0;
-          second = h;
-          left = bytes-start deck s q.start q.size;
-        }
 
     module _ {j : ℕ} (f : Compared deck s q.start q.size j) where
       pub bytes-unequal : j < q.size → (get_or deck (s + j) 0 ≡ get_or deck (q.start + j) 0 → ⊥) → t ≡ false

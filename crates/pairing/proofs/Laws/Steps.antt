@@ -15,7 +15,7 @@ use Rattle.tables.proofs.Laws.Scans.{first_more, first-stop, first-end}
 use Rattle.merge_rules.specs.Pairing.{Action, a_only, b_only, Plan, uses}
 use Rattle.pairing.specs.declared.plan.Sides.{Sides}
 use Rattle.pairing.specs.declared.action.Action as program
-use Rattle.pairing.specs.declared.action.Action.TheVariants.{MergeEqual, MergeUnequal, BOnly, UnmergeableParent}
+use Rattle.pairing.specs.declared.action.Action.TheVariants.{MergeEqual, MergeUnequal, UnmergeableParent}
 use Rattle.pairing.specs.declared.plan.Use.{Use}
 use Rattle.pairing.specs.Plans.{row_element, level_plan, child_used_twice, or_used_twice}
 use Rattle.pairing.specs.Walks.{first_children, second_children, next_action, StepIn, WorkRoom, Ranged, Walks, StepPasses}
@@ -30,9 +30,6 @@ module _ (s : Sides) (j : ℕ) (o : program.Action) (h : StepIn s j o) where
 
   pub step-unequal : (x : _) → o ≡ MergeUnequal x → x.0 < element_limit
   step-unequal x e = rw e at h
-
-  pub step-second : o ≡ BOnly → s.start + j < s.end
-  step-second e = rw e at h
 
   pub step-never : o ≡ UnmergeableParent → ⊥
   step-never e = rw e at h

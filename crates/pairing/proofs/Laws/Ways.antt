@@ -24,13 +24,9 @@ use Rattle.pairing.proofs.Laws.Walks.{plus_restriction, plus_import, plus_pair}
 abbrev Asked : Type 1
 Asked = (Element → Element → Action) → ℕ → Type 0
 
--- ---- none, and one after the other
+-- ---- one after the other
 
 module _ (s : Sides) (P : Asked) (Q : ℕ → Type 0) (w : List ℕ) (i j k : ℕ) where
-  pub walks-none : (used : List Use) → WorkRoom s w i j k → Counted (plan_up_to s.rows i k w) used → Walks s P Q w i j k w used i j k
-  walks-none used room counted =
-      record { room = room; counted = counted; behind = refl; ranged = λ n q r. r; plans = λ act end whole q p. p }
-
   -- as far as one, and on from there
   pub walks-then : (P' : Asked) (Q' : ℕ → Type 0) (w₁ : List ℕ) (used₁ : List Use) (i₁ j₁ k₁ : ℕ) (w₂ : List ℕ) (used₂ : List Use) (i₂ j₂ k₂ : ℕ)
       → Walks s P Q w i j k w₁ used₁ i₁ j₁ k₁ → Walks s P' Q' w₁ i₁ j₁ k₁ w₂ used₂ i₂ j₂ k₂
