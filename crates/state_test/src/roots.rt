@@ -55,7 +55,13 @@ fn row_again(schema: &[u64], t: TypeNumber, n: Name, row: usize) -> Option<usize
 }
 
 // A listed element is one deeper than p, and has the type that the row of its name in p's type gives: that row then, else none.
-fn child_valid(schema: &[u64], elements: &[u64], p: Element, e: Element, row: usize) -> Option<usize>
+fn child_valid(
+    schema: &[u64],
+    elements: &[u64],
+    p: Element,
+    e: Element,
+    row: usize,
+) -> Option<usize>
     requires good_schema { GoodSchema schema.now }
     requires good_elements { GoodElements elements.now }
     requires each { Each Shallow (elements_of elements.now).depths }
@@ -94,7 +100,13 @@ fn item_valid(schema: &[u64], elements: &[u64], p: Element, a: Item, row: usize)
 }
 
 // The row found last if each item in the list of p is valid, else none.
-fn list_valid(schema: &[u64], elements: &[u64], model: &[u64], p: usize, row: usize) -> Option<usize>
+fn list_valid(
+    schema: &[u64],
+    elements: &[u64],
+    model: &[u64],
+    p: usize,
+    row: usize,
+) -> Option<usize>
     requires good_schema { GoodSchema schema.now }
     requires good_elements { GoodElements elements.now }
     requires each { Each Shallow (elements_of elements.now).depths }

@@ -33,10 +33,10 @@ returns-then-not-trees_declared c = let entries_0 : all_of (entry_declared (sche
     files-stop-4 (fixed_in deck c.args.schema.now c.args.elements.now) (state_in c.args.model.now c.args.log.now) root-set_0 sets_0 entries_0
     (failed (c.trees_declared.ensures _ c.declared_files-d.ensures) c.if-not-trees_declared.true)
 
-pub tree_files_distinct-requires : goal.tree_files_distinct-requires
-tree_files_distinct-requires c = let root-set_0 : root_set_stored (model_of c.args.model.now) ≡ true = passed c.root_set_stored.ensures c.if-not-root_set_stored.false in
+pub tree_files_distinct-requires-clause-nonzero : goal.tree_files_distinct-requires-clause-nonzero
+tree_files_distinct-requires-clause-nonzero c = let root-set_0 : root_set_stored (model_of c.args.model.now) ≡ true = passed c.root_set_stored.ensures c.if-not-root_set_stored.false in
     let there = root-set-there (model_of c.args.model.now) root-set_0 in
-    record { good_elements = c.requires.good_elements; each = c.requires.each_2; good_model = c.requires.good_model; nonzero = omega (arith, c.requires.good_model.sized.sets) }
+    omega (arith, c.requires.good_model.sized.sets)
 
 pub returns : goal.returns
 returns c = let trees_0 : all_of (tree_declared (schema_of c.args.schema.now)) (elements_of c.args.elements.now).trees ≡ true = passed (c.trees_declared.ensures _ c.declared_files-d.ensures) c.if-not-trees_declared.false in let entries_0 : all_of (entry_declared (schema_of c.args.schema.now)) (log_of c.args.log.now) ≡ true = passed (c.log_declared.ensures _ c.declared_files-d.ensures) c.if-not-log_declared.false in let sets_0 : all_of (set_declared (schema_of c.args.schema.now)) (model_of c.args.model.now).sets ≡ true = passed (c.sets_declared.ensures _ c.declared_files-d.ensures) c.if-not-sets_declared.false in let root-set_0 : root_set_stored (model_of c.args.model.now) ≡ true = passed c.root_set_stored.ensures c.if-not-root_set_stored.false in

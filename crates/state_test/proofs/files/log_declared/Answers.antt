@@ -1,13 +1,9 @@
 use mathlib.Core.Path.{◌∙◌, ap}
 use Rattle.tables.specs.LogTable.{log_of}
 use Rattle.state_test.specs.StateTest.{entry_declared}
-use Rattle.state_test.proofs.Laws.Files.{entry-stop, entry_more, entries-start, entries-end}
+use Rattle.state_test.proofs.Laws.Files.{entry-stop, entry_more, entries-end}
 use borrow.Author.Rules.{rules}
 use Rattle.state_test.proofs.files.log_declared.Goals as goal
-
-pub loop-i-init : goal.loop-i-init
-loop-i-init c =
-    (search rules, λ sc e. entries-start (entry_declared sc) (log_of c.args.log.now) _ c.log_length-i.ensures)
 
 pub returns-then-not-entry_declared : goal.returns-then-not-entry_declared
 returns-then-not-entry_declared c =

@@ -12,4 +12,3 @@ use Rattle.state_test.proofs.files.log_declared.Given as goal
 abbrev pub invariant-loop-i : goal.invariant-loop-i
 invariant-loop-i l =
     (l.i ≤ length (log_of l.log)) × ((sc : Schema) → set_is l.d ≡ declared_files sc → all_of (entry_declared sc) (drop (length (log_of l.log) - l.i) (log_of l.log)) ≡ all_of (entry_declared sc) (log_of l.log))
-

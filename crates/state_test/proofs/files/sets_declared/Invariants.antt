@@ -1,6 +1,5 @@
 use mathlib.Core.Bool.{◌&&◌}
 use mathlib.Core.Path.{◌≡◌}
-use Prim.Native.Nat.{◌-◌}
 use lib.ListN.{drop}
 use Rattle.tables.specs.Lists.{all_of}
 use Rattle.tables.specs.Records.{Schema}
@@ -13,4 +12,3 @@ use Rattle.state_test.proofs.files.sets_declared.Given as goal
 abbrev pub invariant-loop-e : goal.invariant-loop-e
 invariant-loop-e l =
     (sc : Schema) → set_is l.d ≡ declared_files sc → (l.all && all_of (set_declared sc) (drop l.e (model_of l.model).sets)) ≡ all_of (set_declared sc) (model_of l.model).sets
-

@@ -1,13 +1,8 @@
 use mathlib.Core.Path.{sym, ◌∙◌}
-use Prim.Native.Nat.{◌<◌}
-use native.Mathlib.Omega.{arith}
-use Rattle.tables.specs.ElementsTable.{elements_of, no_tree}
-use Rattle.tables.specs.Limits.{file_limit}
+use Rattle.tables.specs.ElementsTable.{elements_of}
 use Rattle.tables.specs.Lists.{keep}
 use Rattle.tables.specs.ModelTable.{model_of}
-use Rattle.tables.specs.Records.{Tree}
 use Rattle.tables.specs.SetCells.{set_is}
-use Rattle.tables.proofs.Laws.Cells.{each-get_d}
 use Rattle.state_test.specs.StateTest.{waits}
 use Rattle.state_test.proofs.Laws.Files.{distinct-start, distinct-loaded, distinct-stop, distinct_more, distinct-end}
 use borrow.Author.Rules.{rules}
@@ -27,11 +22,6 @@ returns-then-holds-2 c =
     distinct-stop (model_of c.args.model.now) (elements_of c.args.elements.now).trees c.loop-i.i (set_is c.loop-i.seen) c.loop-i.invariant (search rules)
     c.set_of-loaded.ensures c.tree_file-f.ensures (sym c.holds.ensures ∙ c.if-holds.false)
     c.holds-in-loop-i.ensures c.if-holds-2.true
-
-pub with-seen-requires : goal.with-seen-requires
-with-seen-requires c =
-    let ts = (elements_of c.args.elements.now).trees in
-    omega (arith, each-get_d (λ (t : Tree). t.file < file_limit) ts c.loop-i.i no_tree c.requires.each (search rules))
 
 pub loop-i-preserved : goal.loop-i-preserved
 loop-i-preserved c =

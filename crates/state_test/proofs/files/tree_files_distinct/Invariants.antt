@@ -1,5 +1,4 @@
 use mathlib.Core.Path.{◌≡◌}
-use Prim.Native.Nat.{◌-◌}
 use lib.ListN.{drop}
 use Rattle.tables.specs.ElementsTable.{elements_of}
 use Rattle.tables.specs.Lists.{keep}
@@ -13,4 +12,3 @@ abbrev pub invariant-loop-i : goal.invariant-loop-i
 invariant-loop-i l =
     distinct_from (set_is l.seen) (keep (waits (model_of l.model)) (drop l.i (elements_of l.elements).trees))
     ≡ tree_files_distinct (keep (waits (model_of l.model)) (elements_of l.elements).trees)
-

@@ -1,4 +1,4 @@
-use mathlib.Core.Path.{refl, sym, ◌∙◌}
+use mathlib.Core.Path.{sym, ◌∙◌}
 use Rattle.tables.specs.ElementsTable.{elements_of, no_tree}
 use Rattle.state_test.specs.StateTest.{tree_declared}
 use Rattle.state_test.proofs.Laws.Files.{tree-tested}

@@ -1,5 +1,4 @@
 use mathlib.Core.Path.{◌≡◌}
-use Prim.Native.Nat.{◌-◌}
 use lib.ListN.{drop}
 use Rattle.tables.specs.Lists.{all_of}
 use Rattle.tables.specs.Records.{Schema}
@@ -12,4 +11,3 @@ use Rattle.state_test.proofs.files.trees_declared.Given as goal
 abbrev pub invariant-loop-i : goal.invariant-loop-i
 invariant-loop-i l =
     (sc : Schema) → set_is l.d ≡ declared_files sc → all_of (tree_declared sc) (drop l.i (elements_of l.elements).trees) ≡ all_of (tree_declared sc) (elements_of l.elements).trees
-

@@ -1,6 +1,6 @@
 use mathlib.Core.Path.{◌≡◌}
 use mathlib.Core.List.{List}
-use Prim.Native.Nat.{ℕ, ◌-◌}
+use Prim.Native.Nat.{ℕ}
 use lib.ListN.{drop}
 use Rattle.tables.specs.Lists.{all_of}
 use Rattle.tables.specs.Records.{list_of}
@@ -13,4 +13,3 @@ abbrev pub invariant-loop-i : goal.invariant-loop-i
 invariant-loop-i l =
     ((deck : List ℕ) → all_of (item_valid (fixed_in deck l.schema l.elements) l.p) (drop l.i (list_of (model_of l.model) l.p)) ≡ all_of (item_valid (fixed_in deck l.schema l.elements) l.p) (list_of (model_of l.model) l.p))
     × FoundRow (schema_of l.schema) l.last
-

@@ -1,6 +1,6 @@
 use mathlib.Core.Path.{◌≡◌}
 use mathlib.Core.List.{List}
-use Prim.Native.Nat.{ℕ, ◌-◌}
+use Prim.Native.Nat.{ℕ}
 use lib.ListN.{drop}
 use Rattle.tables.specs.ModelTable.{model_of}
 use Rattle.tables.specs.SchemaTable.{schema_of}
@@ -11,4 +11,3 @@ abbrev pub invariant-loop-p : goal.invariant-loop-p
 invariant-loop-p l =
     ((deck : List ℕ) → lists_valid (fixed_in deck l.schema l.elements) l.p (drop l.p (model_of l.model).lists) ≡ lists_valid (fixed_in deck l.schema l.elements) 0 (model_of l.model).lists)
     × FoundRow (schema_of l.schema) l.last
-

@@ -1,4 +1,4 @@
-use mathlib.Core.Path.{refl, sym, ap, ◌∙◌}
+use mathlib.Core.Path.{sym, ap, ◌∙◌}
 use Rattle.tables.specs.Records.{Tree}
 use Rattle.tables.specs.ElementsTable.{elements_of, no_tree}
 use Rattle.state_test.specs.StateTest.{root_valid, fixed_in}

@@ -1,6 +1,6 @@
 use mathlib.Core.Path.{◌≡◌}
 use mathlib.Core.List.{List}
-use Prim.Native.Nat.{ℕ, ◌-◌}
+use Prim.Native.Nat.{ℕ}
 use lib.ListN.{drop}
 use Rattle.tables.specs.Lists.{all_of}
 use Rattle.tables.specs.Records.{Tree}
@@ -10,4 +10,3 @@ use Rattle.state_test.proofs.roots.roots_valid.Given as goal
 
 abbrev pub invariant-loop-i : goal.invariant-loop-i
 invariant-loop-i l = (deck schema : List ℕ) → all_of (λ (t : Tree). root_valid (fixed_in deck schema l.elements) t.root) (drop l.i (elements_of l.elements).trees) ≡ all_of (λ (t : Tree). root_valid (fixed_in deck schema l.elements) t.root) (elements_of l.elements).trees
-

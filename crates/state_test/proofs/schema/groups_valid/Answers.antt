@@ -1,4 +1,4 @@
-use mathlib.Core.Path.{◌≡◌, refl, ap, ◌∙◌}
+use mathlib.Core.Path.{◌≡◌, ap, ◌∙◌}
 use lib.ListN.{get_or, take}
 use Rattle.tables.specs.SchemaTable.{schema_of, no_group}
 use Rattle.deck.specs.Schema.{group_rule}
@@ -8,11 +8,12 @@ use Rattle.state_test.proofs.Laws.Schemas.{group_rules, with_groups, group-rule-
 use borrow.Author.Rules.{rules}
 use Rattle.state_test.proofs.schema.groups_valid.Goals as goal
 
-pub group_rule-requires : goal.group_rule-requires
-group_rule-requires c =
+pub group_rule-requires-clause-repeated_value : goal.group_rule-requires-clause-repeated_value
+group_rule-requires-clause-repeated_value c =
     let sc = schema_of c.args.schema.now in
     let i = c.loop-i.i in
-    let g = get_or sc.groups i no_group in record { good_schema = search rules; above_in_bounds = search rules; repeated_value = rw (c.group_type-t.ensures, c.group_path-p.ensures) (has_above sc i g.type g.path (search rules) c.repeats-repeated.ensures) }
+    let g = get_or sc.groups i no_group in
+    rw (c.group_type-t.ensures, c.group_path-p.ensures) (has_above sc i g.type g.path (search rules) c.repeats-repeated.ensures)
 
 pub returns-then-not-group_rule : goal.returns-then-not-group_rule
 returns-then-not-group_rule c = let answer_0 : let sc = schema_of c.args.schema.now in

@@ -1,5 +1,4 @@
 use mathlib.Core.Path.{◌≡◌}
-use Prim.Native.Nat.{◌-◌}
 use lib.ListN.{take, drop}
 use Rattle.tables.specs.SchemaTable.{schema_of}
 use Rattle.state_test.specs.StateTest.{groups_valid, types_alone}
@@ -9,4 +8,3 @@ use Rattle.state_test.proofs.schema.groups_valid.Given as goal
 abbrev pub invariant-loop-i : goal.invariant-loop-i
 invariant-loop-i l =
     groups_valid (with_groups (schema_of l.schema) (take l.i (schema_of l.schema).groups)) (drop l.i (schema_of l.schema).groups) ≡ groups_valid (types_alone (schema_of l.schema)) (schema_of l.schema).groups
-

@@ -1,9 +1,9 @@
-use mathlib.Core.Path.{◌≡◌, refl, sym, ap, subst, ◌∙◌}
+use mathlib.Core.Path.{◌≡◌, refl, ap, ◌∙◌}
 use lib.ListN.{get_or}
 use Rattle.tables.specs.SchemaTable.{schema_of, no_sub_element}
 use Rattle.tables.proofs.Laws.Cells.{each-get_d}
 use Rattle.deck.specs.Schema.{sub_element_rule}
-use Rattle.schema_calls.specs.Calls.{rows_above, has_equal_row}
+use Rattle.schema_calls.specs.Calls.{rows_above}
 use Rattle.schema_calls.proofs.Laws.Closed.{closed-above}
 use Rattle.state_test.specs.StateTest.{PathFilled}
 use Rattle.state_test.proofs.Laws.Answers.{passed}
@@ -13,10 +13,6 @@ use Rattle.state_test.proofs.schema.rows_valid.Goals as goal
 
 pub loop-i-init : goal.loop-i-init
 loop-i-init c = (refl, closed-groups (schema_of c.args.schema.now) c.requires.schema_value)
-
-pub sub_element_rule-requires : goal.sub_element_rule-requires
-sub_element_rule-requires c = let filled_0 : PathFilled (get_or (schema_of c.args.schema.now).sub_elements c.loop-i.i no_sub_element) = each-get_d PathFilled (schema_of c.args.schema.now).sub_elements c.loop-i.i no_sub_element c.requires.each (search rules) in
-    let is = sym c.row_cells.ensures in record { good_schema = c.requires.good_schema; above_in_bounds = search rules; paths_closed = c.loop-i.invariant.1; nonzero = subst PathFilled is filled_0; repeated_value = c.row_repeats-repeated.ensures ∙ ap (has_equal_row (rows_above (schema_of c.args.schema.now) c.loop-i.i)) is }
 
 pub returns-then-not-sub_element_rule : goal.returns-then-not-sub_element_rule
 returns-then-not-sub_element_rule c = let answer_0 : let sc = schema_of c.args.schema.now in

@@ -1,5 +1,4 @@
 use mathlib.Core.Path.{◌≡◌}
-use Prim.Native.Nat.{◌-◌}
 use lib.ListN.{take, drop}
 use Rattle.tables.specs.SchemaTable.{schema_of}
 use Rattle.schema_calls.specs.Calls.{rows_above, PathsClosed}
@@ -11,4 +10,3 @@ abbrev pub invariant-loop-i : goal.invariant-loop-i
 invariant-loop-i l =
     (rows_valid (with_rows (schema_of l.schema) (take l.i (schema_of l.schema).sub_elements)) (drop l.i (schema_of l.schema).sub_elements) ≡ rows_valid (without_rows (schema_of l.schema)) (schema_of l.schema).sub_elements)
     × PathsClosed (rows_above (schema_of l.schema) l.i)
-

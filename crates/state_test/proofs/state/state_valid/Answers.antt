@@ -12,9 +12,6 @@ pub returns-then-not-schema_valid : goal.returns-then-not-schema_valid
 returns-then-not-schema_valid c =
     λ deck. state-stop-1 (fixed_in deck c.args.schema.now c.args.elements.now) (state_in c.args.model.now c.args.log.now) (failed c.schema_valid.ensures c.if-not-schema_valid.true)
 
-pub files_declared-requires : goal.files_declared-requires
-files_declared-requires c = record { good_schema = c.requires.good_schema; each = c.requires.each_2; good_elements = c.requires.good_elements; each_2 = c.requires.each_4; good_model = c.requires.good_model; good_log = c.requires.good_log }
-
 pub returns-then-not-files_declared : goal.returns-then-not-files_declared
 returns-then-not-files_declared c = let schema_0 : schema_valid (schema_of c.args.schema.now) ≡ true = passed c.schema_valid.ensures c.if-not-schema_valid.false in
     λ deck. state-stop-2 (fixed_in deck c.args.schema.now c.args.elements.now) (state_in c.args.model.now c.args.log.now) schema_0 (failed (c.files_declared.ensures deck) c.if-not-files_declared.true)
@@ -22,9 +19,6 @@ returns-then-not-files_declared c = let schema_0 : schema_valid (schema_of c.arg
 pub returns-then-not-roots_valid : goal.returns-then-not-roots_valid
 returns-then-not-roots_valid c = let files_0 : (deck : List ℕ) → files_declared (fixed_in deck c.args.schema.now c.args.elements.now) (state_in c.args.model.now c.args.log.now) ≡ true = λ deck. passed (c.files_declared.ensures deck) c.if-not-files_declared.false in let schema_0 : schema_valid (schema_of c.args.schema.now) ≡ true = passed c.schema_valid.ensures c.if-not-schema_valid.false in
     λ deck. state-stop-3 (fixed_in deck c.args.schema.now c.args.elements.now) (state_in c.args.model.now c.args.log.now) schema_0 (files_0 deck) (failed (c.roots_valid.ensures deck c.args.schema.now) c.if-not-roots_valid.true)
-
-pub lists_valid-requires : goal.lists_valid-requires
-lists_valid-requires c = record { good_schema = c.requires.good_schema; good_elements = c.requires.good_elements; each = c.requires.each_3; good_model = c.requires.good_model; model_value = c.requires.model_value }
 
 pub returns : goal.returns
 returns c = let files_0 : (deck : List ℕ) → files_declared (fixed_in deck c.args.schema.now c.args.elements.now) (state_in c.args.model.now c.args.log.now) ≡ true = λ deck. passed (c.files_declared.ensures deck) c.if-not-files_declared.false in let schema_0 : schema_valid (schema_of c.args.schema.now) ≡ true = passed c.schema_valid.ensures c.if-not-schema_valid.false in
