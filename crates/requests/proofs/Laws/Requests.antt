@@ -1,51 +1,49 @@
 -- Laws of a line of a list of calls: its words, its numbers, and the count of its fields. Assumes nothing.
-use mathlib.Core.Bool.{Bool, true, false}
+use Rattle.std.specs.Prelude.{Option as OptionOf, Some, None}
+use mathlib.Core.Bool.{Bool, true, false, ◌&&◌}
 use mathlib.Core.List.{List, [], ◌∷◌}
 use mathlib.Core.Option.{Option, none, some, bind}
 use mathlib.Core.Path.{◌≡◌, refl, sym, ap, ◌∙◌}
-use Prim.Native.Nat.{ℕ, zero, suc, ◌+◌, ◌≤◌, ◌<◌}
-use native.Mathlib.Numerals.{add-one}
+use Prim.Native.Nat.{ℕ, zero, suc, ◌<◌}
 use native.Mathlib.Omega.{arith}
 use borrow.Author.Tests.{eq-eqb, ne_eqb}
 use lib.Dec.{eqb, eqb-suc-zero, eqb-suc-suc}
-use lib.ListN.{length, take, drop, get_or, drop_of_length-le}
-use lib.Seq.{drop-cons, get_or-take}
+use lib.ListN.{length, take}
+use lib.Pointwise.{pointwise}
+use lib.Seq.{get_or-take}
 use Rattle.tables.specs.Lists.{first_of, same_list}
 use Rattle.deck.specs.Deck.{Part, field, fields, only}
-use Rattle.deck.specs.Answers.{fields_of, Placed, Splits, num_is}
-use Rattle.deck.specs.declared.fields.Num.{Num}
-use Rattle.deck.specs.declared.fields.Num.TheVariants.{Number, Bad}
+use Rattle.deck.specs.Answers.{fields_of, Placed, Splits}
 use Rattle.deck.specs.declared.lines.Fields.{Fields}
 use Rattle.deck.proofs.Laws.Lines.{fields-count}
 use Rattle.merge_rules.specs.CallLists.{Request, line_merge, line_rollback, line_range, line_alone, of_model, of_trees, of_log, words, by_word, read_request}
 use Rattle.merge_rules.proofs.Laws.Lists.{each_in, first_of-some}
+use Rattle.requests.specs.Requests.{word_is}
 
--- ---- two words compared byte by byte
+-- ---- two words
 
-module _ (s w : List ℕ) (i : ℕ) (k : length s ≡ length w) where
-  pub word_end : length s ≤ i → same_list (drop i s) (drop i w) ≡ true
-  unfolding same_list
-  word_end h = rw (drop_of_length-le s {i = i} h, drop_of_length-le w {i = i} (omega arith))
-
-  module _ (h : i < length s) where
-    pub word-differs : (get_or s i 0 ≡ get_or w i 0 → ⊥) → same_list (drop i s) (drop i w) ≡ false
-    unfolding same_list
-    word-differs n = rw (drop-cons s i 0 h, drop-cons w i 0 (omega arith), ne_eqb (get_or s i 0) (get_or w i 0) n, same_list)
-
-    pub word_more : get_or s i 0 ≡ get_or w i 0 → same_list (drop i s) (drop i w) ≡ same_list (drop (i + 1) s) (drop (i + 1) w)
-    unfolding same_list
-    word_more e = rw (add-one i, drop-cons s i 0 h, drop-cons w i 0 (omega arith), eq-eqb (get_or s i 0) (get_or w i 0) e, same_list)
+-- `==` on bytes
+pub equal-same : (s w : List ℕ) → pointwise eqb s w ≡ same_list s w
+unfolding same_list
+equal-same [] [] = refl
+equal-same [] (b ∷ w) = refl
+equal-same (a ∷ s) [] = refl
+equal-same (a ∷ s) (b ∷ w) = both (eqb a b) (equal-same s w)
+  where
+    both : (q : Bool) {r z : Bool} → r ≡ z → (q && r) ≡ elim q [ true ↦ z | false ↦ false ]
+    both true e = e
+    both false e = refl
 
 -- ---- a number of a line, and the count of its fields
 
-module _ (o : Option ℕ) (n : Num) (e : num_is n ≡ o) (k : ℕ → Option Request) where
-  pub number-bad : n ≡ Bad → none ≡ bind o k
-  unfolding num_is bind
-  number-bad h = rw (← e, h)
+module _ (o : Option ℕ) (n : OptionOf ℕ) (e : word_is n ≡ o) (k : ℕ → Option Request) where
+  pub word-missing : n ≡ None → none ≡ bind o k
+  unfolding word_is bind
+  word-missing h = rw (← e, h)
 
-  pub number_read : (v : ℕ) → n ≡ Number v → k v ≡ bind o k
-  unfolding num_is bind
-  number_read v h = rw (← e, h)
+  pub word-read : (v : ℕ) → n ≡ Some v → k v ≡ bind o k
+  unfolding word_is bind
+  word-read v h = rw (← e, h)
 
 module _ (calls : List ℕ) (f : Fields) (w : Placed calls f) (n : ℕ) (q : Request) where
   pub count-other : (f.count ≡ n → ⊥) → none ≡ only (eqb (length (fields_of calls f)) n) q

@@ -1,38 +1,38 @@
 use mathlib.Core.Path.{◌∙◌}
 use Rattle.merge_rules.specs.CallLists.{line_range}
-use Rattle.requests.proofs.Laws.Requests.{number-bad, number_read, count-other, count-due}
+use Rattle.requests.proofs.Laws.Requests.{word-missing, word-read, count-other, count-due}
 use Rattle.requests.proofs.requests.line_range.Goals as goal
 
-pub returns-in_default : goal.returns-in_default
+pub returns-in_err-element : goal.returns-in_err-element
 unfolding line_range
-returns-in_default c =
-    number-bad _ _ c.word_at.ensures _ c.in_default.is
+returns-in_err-element c = rw c.from_residual.ensures (word-missing _ _ c.word_at.ensures _ c.in_err-element.was)
 
-pub returns-in_default-word_at : goal.returns-in_default-word_at
+pub returns-in_err-name : goal.returns-in_err-name
 unfolding line_range
-returns-in_default-word_at c =
-    number-bad _ _ c.word_at-2.ensures _ c.in_default-word_at.is
-    ∙ number_read _ _ c.word_at.ensures _ _ c.in-Number.is
+returns-in_err-name c =
+    rw c.from_residual-in_err-name.ensures
+    (word-missing _ _ c.word_at-2.ensures _ c.in_err-name.was ∙ word-read _ _ c.word_at.ensures _ _ c.in_ok-element.was)
 
-pub returns-in_default-word_at-2 : goal.returns-in_default-word_at-2
+pub returns-in_err-version : goal.returns-in_err-version
 unfolding line_range
-returns-in_default-word_at-2 c =
-    number-bad _ _ c.word_at-3.ensures _ c.in_default-word_at-2.is
-    ∙ number_read _ _ c.word_at-2.ensures _ _ c.in-Number-word_at.is
-    ∙ number_read _ _ c.word_at.ensures _ _ c.in-Number.is
+returns-in_err-version c =
+    rw c.from_residual-in_err-version.ensures
+    (word-missing _ _ c.word_at-3.ensures _ c.in_err-version.was
+    ∙ word-read _ _ c.word_at-2.ensures _ _ c.in_ok-name.was
+    ∙ word-read _ _ c.word_at.ensures _ _ c.in_ok-element.was)
 
-pub returns-then-f-ne4 : goal.returns-then-f-ne4
+pub returns-then-f-eq4 : goal.returns-then-f-eq4
 unfolding line_range
-returns-then-f-ne4 c =
-    count-other c.args.calls.now c.args.f c.requires 4 _ c.if-f-ne4.true
-    ∙ number_read _ _ c.word_at-3.ensures _ _ c.in-Number-word_at-2.is
-    ∙ number_read _ _ c.word_at-2.ensures _ _ c.in-Number-word_at.is
-    ∙ number_read _ _ c.word_at.ensures _ _ c.in-Number.is
+returns-then-f-eq4 c =
+    count-due c.args.calls.now c.args.f c.requires 4 _ c.if-f-eq4.true
+    ∙ word-read _ _ c.word_at-3.ensures _ _ c.in_ok-version.was
+    ∙ word-read _ _ c.word_at-2.ensures _ _ c.in_ok-name.was
+    ∙ word-read _ _ c.word_at.ensures _ _ c.in_ok-element.was
 
-pub returns : goal.returns
+pub returns-else-f-eq4 : goal.returns-else-f-eq4
 unfolding line_range
-returns c =
-    count-due c.args.calls.now c.args.f c.requires 4 _ c.if-f-ne4.false
-    ∙ number_read _ _ c.word_at-3.ensures _ _ c.in-Number-word_at-2.is
-    ∙ number_read _ _ c.word_at-2.ensures _ _ c.in-Number-word_at.is
-    ∙ number_read _ _ c.word_at.ensures _ _ c.in-Number.is
+returns-else-f-eq4 c =
+    count-other c.args.calls.now c.args.f c.requires 4 _ c.if-f-eq4.false
+    ∙ word-read _ _ c.word_at-3.ensures _ _ c.in_ok-version.was
+    ∙ word-read _ _ c.word_at-2.ensures _ _ c.in_ok-name.was
+    ∙ word-read _ _ c.word_at.ensures _ _ c.in_ok-element.was
