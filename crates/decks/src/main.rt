@@ -3,8 +3,6 @@
 // calls are made, and NAME.out. docs/WORKING.md says what is in which folder.
 #![tactic(auto)]
 
-use deck::fields::find_byte;
-use deck::lines::line_end;
 use std::io;
 use std::rt::Files;
 use streams::answers::{held, read_file, word};
@@ -16,65 +14,59 @@ fn answered(
     rt: &(impl Files + Print),
     name: &[u8],
     deck: &[u8],
-    calls: &[u8],
-    listed: bool,
+    calls: Option<&[u8]>,
 ) -> io::Result<bool> {
     let mut out = megabyte();
-    let n = part(deck, calls, listed, 0, &mut out);
+    let n = part(deck, calls, 0, &mut out);
     held(rt, name, &out[..n])
 }
 
 // With the calls of the case, where it has some.
 fn run(rt: &(impl Files + Print), name: &[u8], deck: &[u8]) -> io::Result<bool> {
     let mut calls = megabyte();
-    let r = read_file(rt, name, b".calls", &mut calls);
-    let n = r.count;
-    answered(rt, name, deck, &calls[..n], r.whole)
+    match read_file(rt, name, b".calls", &mut calls) {
+        Ok(n) => answered(rt, name, deck, Some(&calls[..n])),
+        Err(_) => answered(rt, name, deck, None),
+    }
 }
 
 // On the deck of this name, of which one byte more than a deck may have matters.
 fn run_on(rt: &(impl Files + Print), name: &[u8], deck_name: &[u8]) -> io::Result<bool> {
     let mut deck = deck_buffer();
-    let r = read_file(rt, deck_name, b".deck", &mut deck);
-    if !r.whole {
+    let Ok(n) = read_file(rt, deck_name, b".deck", &mut deck) else {
         word(rt, name)?;
         word(rt, b": no deck in a file\n")?;
         return Ok(false);
-    }
-    let n = r.count;
+    };
     run(rt, name, &deck[..n])
 }
 
 // The case of a line of the list.
 fn run_case(rt: &(impl Files + Print), line: &[u8]) -> io::Result<bool> {
-    let end = find_byte(line, b' ', 0, line.len());
-    if end < line.len() {
-        return run_on(rt, &line[0..end], &line[end + 1..]);
+    match line.iter().position(|byte| *byte == b' ') {
+        Some(end) => run_on(rt, &line[..end], &line[end + 1..]),
+        None => run_on(rt, line, line),
     }
-    run_on(rt, line, line)
 }
 
 // How many cases differ.
 fn run_list(rt: &(impl Files + Print), list: &[u8]) -> io::Result<u64> {
     let mut differ: u64 = 0;
-    let mut at: usize = 0;
-    while at < list.len() {
-        let end = line_end(list, at);
-        if !run_case(rt, &list[at..end])? {
+    for line in list.split_inclusive(|byte| *byte == b'\n') {
+        if !run_case(rt, line.strip_suffix(b"\n").unwrap_or(line))? {
             differ = differ.wrapping_add(1);
         }
-        at = end + 1;
     }
     Ok(differ)
 }
 
 fn main(rt: HostRuntime) -> io::Result<()> {
     let mut list = megabyte();
-    let r = read_file(&rt, b"list", b"", &mut list);
-    let n = r.count;
-    if n == 0 {
-        return word(&rt, b"list: no case\n");
+    match read_file(&rt, b"list", b"", &mut list) {
+        Ok(n) if 0 < n => {
+            rt.print(run_list(&rt, &list[..n])?)?;
+            word(&rt, b" cases differ\n")
+        }
+        _ => word(&rt, b"list: no case\n"),
     }
-    rt.print(run_list(&rt, &list[..n])?)?;
-    word(&rt, b" cases differ\n")
 }

@@ -6,7 +6,7 @@ use output::answers::{append_merge, append_range, append_refused_deck, append_ro
 use printing::buffer::{Written, append_bytes, append_number};
 use scripts::areas::{ELEMENTS, LOG, MODEL};
 use scripts::cells::{cut, cut_bytes, not_zero, put_back, take_out};
-use scripts::lines::{LOAD, Line, MERGE, RANGE, ROLLBACK, TEST};
+use scripts::lines::Call;
 use state_test::state::lent_tables_pass;
 use table_test::test::tables_pass;
 use tables::elements::ELEMENTS_SIZE;
@@ -48,12 +48,14 @@ fn range_line(
     elements: &[u64],
     model: &[u64],
     log: &[u64],
-    l: Line,
+    element: u64,
+    name: u64,
+    version: u64,
     out: &mut [u8],
     w: Written,
 ) -> Written {
-    let a = range(deck, schema, elements, model, log, l.x, l.y, l.z);
-    append_range(out, w, l.x, l.y, l.z, a)
+    let a = range(deck, schema, elements, model, log, element, name, version);
+    append_range(out, w, element, name, version, a)
 }
 
 fn load_line(
@@ -120,18 +122,19 @@ fn answer(
     elements: &mut [u64],
     model: &mut [u64],
     log: &mut [u64],
-    l: Line,
+    call: Call,
     out: &mut [u8],
     w: Written,
 ) -> Written {
-    let step = l.step;
-    match step {
-        MERGE => merge_line(deck, schema, elements, model, log, l.x, out, w),
-        ROLLBACK => rollback_line(deck, schema, elements, model, log, l.x, out, w),
-        RANGE => range_line(deck, schema, elements, model, log, l, out, w),
-        LOAD => load_line(deck, schema, elements, model, log, out, w),
-        TEST => test_line(deck, schema, elements, model, log, out, w),
-        _ => count_line(schema, elements, model, log, out, w),
+    match call {
+        Call::Load => load_line(deck, schema, elements, model, log, out, w),
+        Call::Merge { file } => merge_line(deck, schema, elements, model, log, file, out, w),
+        Call::Rollback { mark } => rollback_line(deck, schema, elements, model, log, mark, out, w),
+        Call::Range { element, name, version } => {
+            range_line(deck, schema, elements, model, log, element, name, version, out, w)
+        }
+        Call::Test => test_line(deck, schema, elements, model, log, out, w),
+        Call::Count => count_line(schema, elements, model, log, out, w),
     }
 }
 
@@ -142,7 +145,7 @@ fn lend(
     elements: &mut [u64],
     model: &mut [u64],
     log: &mut [u64],
-    l: Line,
+    call: Call,
     out: &mut [u8],
     s: State,
 ) -> Written {
@@ -157,7 +160,7 @@ fn lend(
         &mut elements[..j],
         &mut model[..k],
         &mut log[..n],
-        l,
+        call,
         out,
         output(s),
     )
@@ -183,8 +186,8 @@ fn put_tables(cells: &mut [u64], schema: &[u64], elements: &[u64], model: &[u64]
     put_back(cells, LOG, log);
 }
 
-// A step on tables of their own, and these put back.
-pub fn run_call(cells: &mut [u64], deck: &[u8], l: Line, out: &mut [u8], s: State) -> State {
+// A call on tables of their own, and these put back.
+pub fn run_call(cells: &mut [u64], deck: &[u8], call: Call, out: &mut [u8], s: State) -> State {
     let mut schema = [0u64; SCHEMA_SIZE + 1];
     let mut elements = [0u64; ELEMENTS_SIZE + 1];
     let mut model = [0u64; MODEL_SIZE + 1];
@@ -196,7 +199,7 @@ pub fn run_call(cells: &mut [u64], deck: &[u8], l: Line, out: &mut [u8], s: Stat
         &mut elements,
         &mut model,
         &mut log,
-        l,
+        call,
         out,
         s,
     );

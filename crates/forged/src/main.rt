@@ -7,7 +7,6 @@ mod script;
 mod state;
 mod steps;
 
-use deck::lines::line_end;
 use scripts::cells::cut_bytes;
 use scripts::words;
 use std::io;
@@ -28,33 +27,23 @@ fn answers_held(
 // Whether the script of this name prints its answers.
 fn script_held(rt: &(impl Files + Print), name: &[u8]) -> io::Result<bool> {
     let mut text = megabyte();
-    let r = read_file(rt, name, b".script", &mut text);
-    if !r.whole {
+    let Ok(n) = read_file(rt, name, b".script", &mut text) else {
         word(rt, name)?;
         word(rt, b".script is not read\n")?;
         return Ok(false);
-    }
-    let n = r.count;
+    };
     let mut out = megabyte();
     let m = script::run(rt, &text[..n], &mut out);
     answers_held(rt, name, &out, m)
 }
 
-fn one_if_not(b: bool) -> u64 {
-    if b { 0 } else { 1 }
-}
-
 // How many of the list's scripts differ.
 fn differing(rt: &(impl Files + Print), list: &[u8]) -> io::Result<u64> {
     let mut n: u64 = 0;
-    let mut at: usize = 0;
-    while at < list.len() {
-        let end = line_end(list, at);
-        n = n.wrapping_add(one_if_not(script_held(rt, &list[at..end])?));
-        if list.len() <= end {
-            return Ok(n);
+    for line in list.split_inclusive(|byte| *byte == b'\n') {
+        if !script_held(rt, line.strip_suffix(b"\n").unwrap_or(line))? {
+            n = n.wrapping_add(1);
         }
-        at = end + 1;
     }
     Ok(n)
 }
@@ -70,10 +59,8 @@ fn run_list(rt: &(impl Files + Print), list: &[u8]) -> io::Result<()> {
 fn main(rt: HostRuntime) -> io::Result<()> {
     words::run(&rt)?;
     let mut list = deck_buffer();
-    let r = read_file(&rt, b"list", b"", &mut list);
-    if !r.whole {
-        return word(&rt, b"the list is not read\n");
+    match read_file(&rt, b"list", b"", &mut list) {
+        Ok(n) => run_list(&rt, &list[..n]),
+        Err(_) => word(&rt, b"the list is not read\n"),
     }
-    let n = r.count;
-    run_list(&rt, &list[..n])
 }

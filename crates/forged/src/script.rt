@@ -30,10 +30,10 @@ fn run_lines(
         if script.len() <= end {
             return bad_line(out, s, line);
         }
-        s = step(rt, script, at, end, cells, deck, out, s);
-        if s.bad {
+        let Some(next) = step(rt, script, at, end, cells, deck, out, s) else {
             return bad_line(out, s, line);
-        }
+        };
+        s = next;
         at = end + 1;
     }
     s.count

@@ -5,7 +5,7 @@ use tables::log::LOG_SIZE;
 use tables::model::MODEL_SIZE;
 use tables::schema::SCHEMA_SIZE;
 
-// The cells that each table is lent with, the bytes of the deck, the bytes printed, and whether the step was none.
+// The cells that each table is lent with, the bytes of the deck, and the bytes printed.
 #[derive(Clone, Copy)]
 pub struct State {
     pub schema: usize,
@@ -14,7 +14,6 @@ pub struct State {
     pub log: usize,
     pub deck: usize,
     pub count: usize,
-    pub bad: bool,
 }
 
 pub fn begin() -> State {
@@ -25,14 +24,7 @@ pub fn begin() -> State {
         log: LOG_SIZE,
         deck: 0,
         count: 0,
-        bad: false,
     }
-}
-
-pub fn bad(s: State) -> State {
-    let mut t = s;
-    t.bad = true;
-    t
 }
 
 // Where the output goes on.
@@ -44,7 +36,8 @@ pub fn output(s: State) -> Written {
 }
 
 pub fn printed(s: State, w: Written) -> State {
-    let mut t = s;
-    t.count = w.count;
-    t
+    State {
+        count: w.count,
+        ..s
+    }
 }

@@ -1,5 +1,6 @@
 -- What the answer to a request, and a whole run, leave in the buffer and in the tables. Assumes nothing.
-use Rattle.std.specs.Prelude.{Bool, true, false, List, ◌≡◌, ℕ}
+use Rattle.std.specs.Prelude.{Option, Some, None, Bool, true, false, List, [], ◌≡◌, ℕ}
+use Rattle.std.specs.Borrow.{Bor}
 use Rattle.tables.specs.Records.{Fixed, State}
 use Rattle.state_test.specs.StateTest.{fixed_in}
 use Rattle.deck.specs.Deck.{lines}
@@ -22,6 +23,11 @@ pub record Shows (before : Buffer) (text : List ℕ) (after : Buffer) : Type 0 w
   pub is : shown after ≡ shown (appended before text)
 
 -- ---- the two runs of the program, by a list of calls or by the deck's trees
+
+-- the bytes of the list that a run is given; where there is none, the run has no list
+abbrev pub list_in : Option (Bor (List ℕ)) → List ℕ
+list_in (Some calls) = calls.now
+list_in None = []
 
 unfoldable pub run_lines : Bool → Fixed → List ℕ → State → List ℕ
 run_lines true x calls s = call_lines x 0 (lines calls) s

@@ -1,5 +1,5 @@
 // The bytes that the program prints, in parts: each call writes those from a byte on, as many as the buffer has room for.
-ghost use Rattle.std.specs.Prelude.{[], ◌∷◌, ◌≡◌};
+ghost use Rattle.std.specs.Prelude.{[], ◌∷◌, ◌≡◌, is_some};
 ghost use Rattle.tables.specs.ElementsTable.{elements_of};
 ghost use Rattle.state_test.specs.StateTest.{fixed_in, state_in};
 ghost use Rattle.deck.specs.Deck.{lines};
@@ -7,7 +7,7 @@ ghost use Rattle.merge_rules.specs.CallLists.{bad_call, call_lines, calls_output
 ghost use Rattle.merge_rules.specs.Program.{merge_lines, output};
 ghost use Rattle.merge_rules.specs.Standing.{Standing};
 ghost use Rattle.printing.specs.Buffers.{buffer_is, Appends, print_from};
-ghost use Rattle.output.specs.Replies.{Shows, run_lines, run_output};
+ghost use Rattle.output.specs.Replies.{Shows, list_in, run_lines, run_output};
 
 use crate::answers::append_refused_deck;
 use crate::reply::{reply, reply_merge};
@@ -15,7 +15,7 @@ use deck::lines::line_end;
 use load::load::load;
 use printing::buffer::{Written, append_bytes, append_number};
 use printing::trees::append_model;
-use requests::requests::{Request, read_request};
+use requests::requests::read_request;
 use tables::elements::{ELEMENTS_SIZE, tree_count, tree_file};
 use tables::log::LOG_SIZE;
 use tables::model::MODEL_SIZE;
@@ -36,11 +36,9 @@ fn merge_trees(
 {
     let n = tree_count(elements);
     let mut k = w;
-    let mut t: usize = 0;
-    while t < n {
+    for t in 0..n {
         let f = tree_file(elements, t);
         k = reply_merge(deck, schema, elements, model, log, f.0, out, k);
-        t += 1;
     }
     append_model(deck, elements, model, out, k)
 }
@@ -80,10 +78,9 @@ fn answer_calls(
             return append_bad_call(out, k, n);
         }
         let next = end + 1;
-        let r = read_request(calls, at, end);
-        if let Request::Bad = r {
+        let Some(r) = read_request(calls, at, end) else {
             return append_bad_call(out, k, n);
-        }
+        };
         k = reply(deck, schema, elements, model, log, r, out, k);
         at = next;
     }
@@ -97,22 +94,25 @@ fn run(
     elements: &[u64],
     model: &mut [u64],
     log: &mut [u64],
-    calls: &[u8],
-    listed: bool,
+    calls: Option<&[u8]>,
     out: &mut [u8],
     w: Written,
 ) -> Written
     requires { Standing deck.now schema.now elements.now model.old log.old }
-    ensures { Shows (buffer_is w out.old) (run_lines listed (fixed_in deck.now schema.now elements.now) calls.now (state_in model.old log.old)) (buffer_is result out.new) }
+    ensures { Shows (buffer_is w out.old)
+        (run_lines (is_some calls.entry) (fixed_in deck.now schema.now elements.now) (list_in calls.entry) (state_in model.old log.old))
+        (buffer_is result out.new) }
 {
-    if listed {
-        return answer_calls(deck, schema, elements, model, log, calls, out, w);
+    match calls {
+        Some(calls) => answer_calls(deck, schema, elements, model, log, calls, out, w),
+        None => merge_trees(deck, schema, elements, model, log, out, w),
     }
-    merge_trees(deck, schema, elements, model, log, out, w)
 }
 
-fn print_run(deck: &[u8], calls: &[u8], listed: bool, from: usize, out: &mut [u8]) -> usize
-    ensures { record { count = result; buffer = out.new } ≡ print_from (run_output listed deck.now calls.now) from out.old }
+// What the program prints for a deck, with a list of calls where there is one, from byte `from` on, as far as there is room; the count of bytes written.
+fn print_run(deck: &[u8], calls: Option<&[u8]>, from: usize, out: &mut [u8]) -> usize
+    ensures { record { count = result; buffer = out.new }
+        ≡ print_from (run_output (is_some calls.entry) deck.now (list_in calls.entry)) from out.old }
 {
     let mut schema = [0u64; SCHEMA_SIZE];
     let mut elements = [0u64; ELEMENTS_SIZE];
@@ -126,7 +126,7 @@ fn print_run(deck: &[u8], calls: &[u8], listed: bool, from: usize, out: &mut [u8
         return append_refused_deck(out, w, e.refusal.number(), e.line).count;
     }
     run(
-        deck, &schema, &elements, &mut model, &mut log, calls, listed, out, w,
+        deck, &schema, &elements, &mut model, &mut log, calls, out, w,
     )
     .count
 }
@@ -135,12 +135,12 @@ fn print_run(deck: &[u8], calls: &[u8], listed: bool, from: usize, out: &mut [u8
 pub fn print_output(deck: &[u8], from: usize, out: &mut [u8]) -> usize
     ensures { record { count = result; buffer = out.new } ≡ print_from (output deck.now) from out.old }
 {
-    print_run(deck, deck, false, from, out)
+    print_run(deck, None, from, out)
 }
 
 // What the program prints for a deck and a list of calls, from byte `from` on, as far as there is room; the count of bytes written.
 pub fn print_calls(deck: &[u8], calls: &[u8], from: usize, out: &mut [u8]) -> usize
     ensures { record { count = result; buffer = out.new } ≡ print_from (calls_output deck.now calls.now) from out.old }
 {
-    print_run(deck, calls, true, from, out)
+    print_run(deck, Some(calls), from, out)
 }

@@ -1,6 +1,6 @@
 // A request answered: the call on the tables, and its lines.
 ghost use Rattle.std.proofs.Math.Option.{some};
-ghost use Rattle.std.specs.Prelude.{◌≡◌};
+ghost use Rattle.std.specs.Prelude.{Some, ◌≡◌};
 ghost use Rattle.state_test.specs.StateTest.{state_in};
 ghost use Rattle.merge_rules.specs.Book.{call_merge, call_rollback, call_range};
 ghost use Rattle.merge_rules.specs.CallLists as rules;
@@ -70,7 +70,7 @@ fn reply_range(
     append_range(out, w, e, n, v, a)
 }
 
-// Any request; nothing for a line of another form.
+// Any request.
 pub fn reply(
     deck: &[u8],
     schema: &[u64],
@@ -82,17 +82,23 @@ pub fn reply(
     w: Written,
 ) -> Written
     requires { Standing deck.now schema.now elements.now model.old log.old }
-    ensures { (q : rules.Request) → request_is r ≡ some q → Replies deck.now schema.now elements.now (state_in model.old log.old) q (buffer_is w out.old) (buffer_is result out.new) model.new log.new }
+    ensures { (q : rules.Request) → request_is (Some r) ≡ some q
+        → Replies deck.now schema.now elements.now (state_in model.old log.old) q (buffer_is w out.old) (buffer_is result out.new) model.new log.new }
 {
     match r {
         Request::Merge(f) => reply_merge(deck, schema, elements, model, log, f, out, w),
         Request::Rollback(mark) => reply_rollback(deck, schema, elements, model, log, mark, out, w),
-        Request::Range(e, n, v) => {
-            reply_range(deck, schema, elements, model, log, e, n, v, out, w)
+        Request::Range {
+            element,
+            name,
+            version,
+        } => {
+            reply_range(
+                deck, schema, elements, model, log, element, name, version, out, w,
+            )
         }
         Request::Model => append_model(deck, elements, model, out, w),
         Request::Trees => append_trees(deck, elements, model, out, w),
         Request::Log => append_log(log, out, w),
-        Request::Bad => w,
     }
 }

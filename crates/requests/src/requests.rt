@@ -42,7 +42,7 @@ fn begins_with(calls: &[u8], f: Fields, word: &[u8]) -> bool
 }
 
 // Field i as a number of 64 bits.
-fn word_at(calls: &[u8], f: Fields, i: usize) -> Option<u64>
+pub fn word_at(calls: &[u8], f: Fields, i: usize) -> Option<u64>
     requires { Placed calls.now f }
     ensures { word_is result ≡ word_field (field (fields_of calls.now f) i) }
 {

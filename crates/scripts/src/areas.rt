@@ -1,6 +1,5 @@
 // The four tables in one array, one behind the other, each with a cell more than it has; behind them those that are kept, and those of before
 // the last call. And the areas of the tables by their names.
-use requests::requests::same_word;
 use tables::elements::{
     ELEMENT_WIDTH, ELEMENTS_AT, ELEMENTS_SIZE, TEXT_WIDTH, TEXTS_AT, TREE_WIDTH, TREES_AT,
 };
@@ -66,97 +65,32 @@ fn index_cells(at: usize) -> Area {
     plain(at, 1, ELEMENTS)
 }
 
-// An area of no width: there is none of that name.
-fn no_area() -> Area {
-    plain(0, 0, 0)
-}
-
-fn log_area(name: &[u8]) -> Area {
-    if same_word(name, b"log-count") {
-        return plain(LOG, ENTRIES_AT, CELLS);
+// The area of this name, if there is one: nothing else knows areas.
+pub fn area_of(name: &[u8]) -> Option<Area> {
+    match name {
+        b"schema-counts" => Some(indexed(0, TYPES_AT)),
+        b"types" => Some(indexed(TYPES_AT, TYPE_WIDTH)),
+        b"groups" => Some(indexed(GROUPS_AT, GROUP_WIDTH)),
+        b"rows" => Some(indexed(ROWS_AT, ROW_WIDTH)),
+        b"files" => Some(indexed(FILES_AT, FILE_WIDTH)),
+        b"group-heads" => Some(index_cells(GROUP_INDEX_AT)),
+        b"group-links" => Some(index_cells(GROUP_INDEX_AT + BUCKETS)),
+        b"name-heads" => Some(index_cells(NAME_INDEX_AT)),
+        b"name-links" => Some(index_cells(NAME_INDEX_AT + BUCKETS)),
+        b"path-heads" => Some(index_cells(PATH_INDEX_AT)),
+        b"path-links" => Some(index_cells(PATH_INDEX_AT + BUCKETS)),
+        b"element-counts" => Some(plain(ELEMENTS, ELEMENTS_AT, MODEL)),
+        b"elements" => Some(plain(ELEMENTS + ELEMENTS_AT, ELEMENT_WIDTH, MODEL)),
+        b"texts" => Some(plain(ELEMENTS + TEXTS_AT, TEXT_WIDTH, MODEL)),
+        b"trees" => Some(plain(ELEMENTS + TREES_AT, TREE_WIDTH, MODEL)),
+        b"model-count" => Some(plain(MODEL, PARENTS_AT, LOG)),
+        b"parents" => Some(plain(MODEL + PARENTS_AT, 1, LOG)),
+        b"starts" => Some(plain(MODEL + STARTS_AT, 1, LOG)),
+        b"items" => Some(plain(MODEL + ITEMS_AT, 1, LOG)),
+        b"sets" => Some(plain(MODEL + SETS_AT, SET_WIDTH, LOG)),
+        b"log-count" => Some(plain(LOG, ENTRIES_AT, CELLS)),
+        b"entries" => Some(plain(LOG + ENTRIES_AT, ENTRY_WIDTH, CELLS)),
+        b"old-sets" => Some(plain(LOG + ENTRIES_AT + OLD_SET_AT, ENTRY_WIDTH, CELLS)),
+        _ => None,
     }
-    if same_word(name, b"entries") {
-        return plain(LOG + ENTRIES_AT, ENTRY_WIDTH, CELLS);
-    }
-    if same_word(name, b"old-sets") {
-        return plain(LOG + ENTRIES_AT + OLD_SET_AT, ENTRY_WIDTH, CELLS);
-    }
-    no_area()
-}
-
-fn model_area(name: &[u8]) -> Area {
-    if same_word(name, b"model-count") {
-        return plain(MODEL, PARENTS_AT, LOG);
-    }
-    if same_word(name, b"parents") {
-        return plain(MODEL + PARENTS_AT, 1, LOG);
-    }
-    if same_word(name, b"starts") {
-        return plain(MODEL + STARTS_AT, 1, LOG);
-    }
-    if same_word(name, b"items") {
-        return plain(MODEL + ITEMS_AT, 1, LOG);
-    }
-    if same_word(name, b"sets") {
-        return plain(MODEL + SETS_AT, SET_WIDTH, LOG);
-    }
-    log_area(name)
-}
-
-fn elements_area(name: &[u8]) -> Area {
-    if same_word(name, b"element-counts") {
-        return plain(ELEMENTS, ELEMENTS_AT, MODEL);
-    }
-    if same_word(name, b"elements") {
-        return plain(ELEMENTS + ELEMENTS_AT, ELEMENT_WIDTH, MODEL);
-    }
-    if same_word(name, b"texts") {
-        return plain(ELEMENTS + TEXTS_AT, TEXT_WIDTH, MODEL);
-    }
-    if same_word(name, b"trees") {
-        return plain(ELEMENTS + TREES_AT, TREE_WIDTH, MODEL);
-    }
-    model_area(name)
-}
-
-fn index_area(name: &[u8]) -> Area {
-    if same_word(name, b"group-heads") {
-        return index_cells(GROUP_INDEX_AT);
-    }
-    if same_word(name, b"group-links") {
-        return index_cells(GROUP_INDEX_AT + BUCKETS);
-    }
-    if same_word(name, b"name-heads") {
-        return index_cells(NAME_INDEX_AT);
-    }
-    if same_word(name, b"name-links") {
-        return index_cells(NAME_INDEX_AT + BUCKETS);
-    }
-    if same_word(name, b"path-heads") {
-        return index_cells(PATH_INDEX_AT);
-    }
-    if same_word(name, b"path-links") {
-        return index_cells(PATH_INDEX_AT + BUCKETS);
-    }
-    elements_area(name)
-}
-
-// The area of this name: nothing else knows areas.
-pub fn area_of(name: &[u8]) -> Area {
-    if same_word(name, b"schema-counts") {
-        return indexed(0, TYPES_AT);
-    }
-    if same_word(name, b"types") {
-        return indexed(TYPES_AT, TYPE_WIDTH);
-    }
-    if same_word(name, b"groups") {
-        return indexed(GROUPS_AT, GROUP_WIDTH);
-    }
-    if same_word(name, b"rows") {
-        return indexed(ROWS_AT, ROW_WIDTH);
-    }
-    if same_word(name, b"files") {
-        return indexed(FILES_AT, FILE_WIDTH);
-    }
-    index_area(name)
 }

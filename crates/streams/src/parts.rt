@@ -11,13 +11,13 @@ use std::io::ErrorKind;
 const LAST_PART: usize = 0x7fff_ffff_ffff_ffff;
 
 // What the program prints for the deck from this byte on: with the list of calls, or merging its trees.
-pub fn part(deck: &[u8], calls: &[u8], listed: bool, from: usize, out: &mut [u8]) -> usize
+pub fn part(deck: &[u8], calls: Option<&[u8]>, from: usize, out: &mut [u8]) -> usize
     ensures { IsPrefixLen result out.new }
 {
-    if listed {
-        return print_calls(deck, calls, from, out);
+    match calls {
+        Some(calls) => print_calls(deck, calls, from, out),
+        None => print_output(deck, from, out),
     }
-    print_output(deck, from, out)
 }
 
 // Whether another part may follow: this one is full, and is written. A reader that wants no more is for the caller to answer, without a word here.
@@ -36,24 +36,18 @@ fn write_part(rt: &(impl Print + Eprint), part: &[u8]) -> io::Result<bool> {
 fn print_part(
     rt: &(impl Print + Eprint),
     deck: &[u8],
-    calls: &[u8],
-    listed: bool,
+    calls: Option<&[u8]>,
     from: usize,
 ) -> io::Result<bool> {
     let mut out = megabyte();
-    let n = part(deck, calls, listed, from, &mut out);
+    let n = part(deck, calls, from, &mut out);
     write_part(rt, &out[..n])
 }
 
 // All parts.
-pub fn print_all(
-    rt: &(impl Print + Eprint),
-    deck: &[u8],
-    calls: &[u8],
-    listed: bool,
-) -> io::Result<()> {
+pub fn print_all(rt: &(impl Print + Eprint), deck: &[u8], calls: Option<&[u8]>) -> io::Result<()> {
     let mut from: usize = 0;
-    while from <= LAST_PART && print_part(rt, deck, calls, listed, from)? {
+    while from <= LAST_PART && print_part(rt, deck, calls, from)? {
         from += MEGABYTE;
     }
     Ok(())

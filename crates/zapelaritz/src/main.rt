@@ -24,27 +24,23 @@ fn run(
     rt: &(impl Print + Eprint),
     name: &str,
     file: &mut impl Read,
-    calls: &[u8],
-    listed: bool,
+    calls: Option<&[u8]>,
 ) -> io::Result<()> {
     let mut deck = deck_buffer();
-    let r = read_all(file, &mut deck);
-    if let Some(error) = r.error {
-        return fail(rt, name, error);
+    match read_all(file, &mut deck) {
+        Ok(n) => print_all(rt, &deck[..n], calls),
+        Err(error) => fail(rt, name, error),
     }
-    let n = r.count;
-    print_all(rt, &deck[..n], calls, listed)
 }
 
 // The deck in the file of this name.
 fn run_file(
     rt: &(impl Files + Print + Eprint),
     name: &str,
-    calls: &[u8],
-    listed: bool,
+    calls: Option<&[u8]>,
 ) -> io::Result<()> {
     match open_read(rt, name.as_bytes()) {
-        Ok(mut file) => run(rt, name, &mut file, calls, listed),
+        Ok(mut file) => run(rt, name, &mut file, calls),
         Err(error) => fail(rt, name, error),
     }
 }
@@ -57,19 +53,15 @@ fn run_calls(
     file: &mut impl Read,
 ) -> io::Result<()> {
     let mut calls = megabyte();
-    let r = read_all(file, &mut calls);
-    if let Some(error) = r.error {
-        return fail(rt, list, error);
-    }
-    let n = r.count;
-    if CALLS_LIMIT < n {
-        return complain(
+    match read_all(file, &mut calls) {
+        Ok(n) if n <= CALLS_LIMIT => run_file(rt, name, Some(&calls[..n])),
+        Ok(_) => complain(
             rt,
             list,
             ": longer than the 1048575 bytes of the largest list of calls",
-        );
+        ),
+        Err(error) => fail(rt, list, error),
     }
-    run_file(rt, name, &calls[..n], true)
 }
 
 fn run_list(rt: &(impl Files + Print + Eprint), name: &str, list: &str) -> io::Result<()> {
@@ -93,10 +85,7 @@ fn argument<'a>(rt: &impl Env, i: usize, buf: &'a mut [u8]) -> io::Result<&'a st
 
 fn is_given(rt: &impl Env, i: usize) -> bool {
     let mut word = [0u8; 1];
-    match rt.arg(i, &mut word) {
-        Err(FillError::NotPresent) => false,
-        _ => true,
-    }
+    !matches!(rt.arg(i, &mut word), Err(FillError::NotPresent))
 }
 
 // How many arguments there are, the program's own name among them.
@@ -112,7 +101,7 @@ fn arg_count(rt: &impl Env) -> usize {
 // By the second argument, the deck of this name alone or with a list of calls.
 fn run_named(rt: &(impl Env + Files + Print + Eprint), name: &str, count: usize) -> io::Result<()> {
     if count == 2 {
-        return run_file(rt, name, b"", false);
+        return run_file(rt, name, None);
     }
     let mut list = [0u8; 4096];
     match argument(rt, 2, &mut list) {
@@ -128,7 +117,7 @@ fn start(rt: &(impl Env + Files + Input + Print + Eprint)) -> io::Result<()> {
         return complain(rt, "usage: ", "zapelaritz [DECK [CALLS]]");
     }
     if count < 2 {
-        return run(rt, "standard input", &mut rt.reader(), b"", false);
+        return run(rt, "standard input", &mut rt.reader(), None);
     }
     let mut name = [0u8; 4096];
     match argument(rt, 1, &mut name) {

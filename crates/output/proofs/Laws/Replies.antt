@@ -1,9 +1,9 @@
 -- What the answer to each request leaves, by what the call answered and what was appended. Assumes nothing.
+use Rattle.std.specs.Prelude.{Some}
 use mathlib.Core.List.{List}
 use mathlib.Core.Option.{some}
 use mathlib.Core.Path.{◌≡◌, refl, ap, subst}
 use Prim.Native.Nat.{ℕ}
-use native.Mathlib.Omega.{arith}
 use Rattle.tables.specs.LogTable.{log_of, GoodLog}
 use Rattle.tables.specs.ModelTable.{model_of}
 use Rattle.state_test.specs.StateTest.{fixed_in, state_in}
@@ -24,7 +24,7 @@ use Rattle.output.specs.Answers.{merge_text, rollback_text, range_text}
 use Rattle.requests.specs.Requests.{request_is}
 use Rattle.output.specs.Replies.{Replies}
 use Rattle.requests.specs.declared.requests.Request as program
-use Rattle.requests.specs.declared.requests.Request.TheVariants.{Merge, Rollback, Range, Model, Trees, Log, Bad}
+use Rattle.requests.specs.declared.requests.Request.TheVariants.{Merge, Rollback, Range, Model, Trees, Log}
 
 module _ {deck schema elements model log : List ℕ} (h : Standing deck schema elements model log) where
   -- the tables stay as they are
@@ -73,20 +73,15 @@ module _ {deck schema elements model log : List ℕ} (h : Standing deck schema e
   log-replies p = record { text = p; state = unchanged h }
 
 -- what holds of the request that the code's stands for
-pub of-request : (P : Request → Type 0) (r : program.Request) (o : program.Request) (p : Request) → r ≡ o → request_is o ≡ some p → P p → (q : Request)
-    → request_is r ≡ some q → P q
+pub of-request : (P : Request → Type 0) (r : program.Request) (o : program.Request) (p : Request) → r ≡ o → request_is (Some o) ≡ some p → P p → (q : Request)
+    → request_is (Some r) ≡ some q → P q
 of-request P r o p g e h q k = let z : p ≡ q = cc in subst P z h
 
--- a request that is not of another form stands for one
-pub not-bad : (r : program.Request) → (r ≡ Bad → ⊥) → (q : Request) × (request_is r ≡ some q)
-not-bad (Merge f) k = (of_call (call_merge f), refl)
-not-bad (Rollback mark) k = (of_call (call_rollback mark), refl)
-not-bad (Range e n v) k = (of_call (call_range e n v), refl)
-not-bad Model k = (of_model, refl)
-not-bad Trees k = (of_trees, refl)
-not-bad Log k = (of_log, refl)
-not-bad Bad k = absurd (k refl)
-
--- one of another form stands for none
-pub bad-stands : (r : program.Request) (q : Request) → r ≡ Bad → request_is r ≡ some q → ⊥
-bad-stands r q e k = let z : ◌≡◌ {A = ℕ} 0 1 = cc in omega arith
+-- a request of the code stands for one
+pub stands-for : (r : program.Request) → (q : Request) × (request_is (Some r) ≡ some q)
+stands-for (Merge f) = (of_call (call_merge f), refl)
+stands-for (Rollback mark) = (of_call (call_rollback mark), refl)
+stands-for (Range e n v) = (of_call (call_range e n v), refl)
+stands-for Model = (of_model, refl)
+stands-for Trees = (of_trees, refl)
+stands-for Log = (of_log, refl)

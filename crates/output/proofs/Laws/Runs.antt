@@ -1,4 +1,6 @@
 -- The two runs of the program: what is left of the trees, or of the lines of a list of calls, gives what the whole gives; and the call. Assumes nothing.
+use Rattle.std.specs.Borrow.{Bor}
+use Rattle.std.specs.Prelude.{Option as OptionOf, Some, None, is_some}
 use mathlib.Core.Bool.{Bool, true, false}
 use mathlib.Core.List.{List, [], ◌∷◌, ◌++◌, append-nil}
 use mathlib.Core.Option.{none, some}
@@ -26,7 +28,7 @@ use Rattle.merge_rules.proofs.Laws.Standing.{loaded-standing, refused-load, outp
 use Rattle.printing.specs.Buffers.{Buffer, Appends, print_from}
 use Rattle.printing.proofs.Laws.Buffers.{Leaves, begin, turn, rests, finish, full-stays}
 use Rattle.printing.proofs.Laws.Parts.{starts}
-use Rattle.output.specs.Replies.{Replies, shown, Shows, run_lines, run_output}
+use Rattle.output.specs.Replies.{Replies, shown, Shows, list_in, run_lines, run_output}
 
 -- ---- what is left of a text
 
@@ -173,17 +175,17 @@ module _ (deck schema elements calls : List ℕ) where
 
 -- ---- the runs
 
-module _ (deck schema elements calls model log : List ℕ) {before after : Buffer} where
-  pub listed-run : (listed : Bool) → listed ≡ true → Shows before (call_lines (fixed_in deck schema elements) 0 (lines calls) (state_in model log)) after
-      → Shows before (run_lines listed (fixed_in deck schema elements) calls (state_in model log)) after
+module _ (deck schema elements model log : List ℕ) {before after : Buffer} (given : OptionOf (Bor (List ℕ))) where
+  pub listed-run : (calls : Bor (List ℕ)) → given ≡ Some calls
+      → Shows before (call_lines (fixed_in deck schema elements) 0 (lines calls.now) (state_in model log)) after
+      → Shows before (run_lines (is_some given) (fixed_in deck schema elements) (list_in given) (state_in model log)) after
   unfolding run_lines
-  listed-run listed e p = rw e p
+  listed-run calls e p = rw e p
 
-  pub trees-run : (listed : Bool) → listed ≡ false
-      → Appends before (merge_lines (fixed_in deck schema elements) (elements_of elements).trees (state_in model log)) after
-      → Shows before (run_lines listed (fixed_in deck schema elements) calls (state_in model log)) after
+  pub trees-run : given ≡ None → Appends before (merge_lines (fixed_in deck schema elements) (elements_of elements).trees (state_in model log)) after
+      → Shows before (run_lines (is_some given) (fixed_in deck schema elements) (list_in given) (state_in model log)) after
   unfolding run_lines
-  trees-run listed e p = rw e (shows p)
+  trees-run e p = rw e (shows p)
 
 -- ---- the call
 

@@ -2,7 +2,7 @@ use mathlib.Core.Path.{sym, ap, ◌∙◌}
 use Rattle.printing.proofs.Laws.Buffers.{as_long}
 use borrow.Author.Rules.{rules}
 use Rattle.requests.specs.Requests.{request_is}
-use Rattle.output.proofs.Laws.Replies.{not-bad}
+use Rattle.output.proofs.Laws.Replies.{stands-for}
 use Rattle.output.proofs.Laws.Runs.{calls-begin, calls-full, calls-end, calls-open, calls-bad, calls-turn}
 use Rattle.output.proofs.print.answer_calls.Goals as goal
 
@@ -43,22 +43,22 @@ pub returns-then-calls-end : goal.returns-then-calls-end
 returns-then-calls-end c =
     calls-open _ _ _ _ c.loop-at.at c.loop-at.n c.loop-at.invariant.0 _ c.line_end-end.ensures c.loop-at-test.true c.if-calls-end.true c.append_bad_call.ensures
 
-pub read_request-r-requires : goal.read_request-r-requires
-read_request-r-requires c = (c.line_end-end.ensures.past, c.line_end-end.ensures.within)
+pub read_request-requires : goal.read_request-requires
+read_request-requires c = (c.line_end-end.ensures.past, c.line_end-end.ensures.within)
 
-pub shape_of-model-in-Bad : goal.shape_of-model-in-Bad
-shape_of-model-in-Bad c = c.loop-at.invariant.1
+pub shape_of-model-in_default : goal.shape_of-model-in_default
+shape_of-model-in_default c = c.loop-at.invariant.1
 
-pub shape_of-log-in-Bad : goal.shape_of-log-in-Bad
-shape_of-log-in-Bad c = c.loop-at.invariant.2
+pub shape_of-log-in_default : goal.shape_of-log-in_default
+shape_of-log-in_default c = c.loop-at.invariant.2
 
-pub shape_of-out-in-Bad : goal.shape_of-out-in-Bad
-shape_of-out-in-Bad c = c.append_bad_call-in-Bad.auto.out ∙ as_long c.loop-at.invariant.0.left
+pub shape_of-out-in_default : goal.shape_of-out-in_default
+shape_of-out-in_default c = c.append_bad_call-in_default.auto.out ∙ as_long c.loop-at.invariant.0.left
 
-pub returns-in-Bad : goal.returns-in-Bad
-returns-in-Bad c =
+pub returns-in_default : goal.returns-in_default
+returns-in_default c =
     calls-bad _ _ _ _ c.loop-at.at c.loop-at.n c.loop-at.invariant.0 _ c.line_end-end.ensures c.if-calls-end.false
-    (ap request_is (sym c.in-Bad.is) ∙ c.read_request-r.ensures) c.append_bad_call-in-Bad.ensures
+    (ap request_is (sym c.in_default.is) ∙ c.read_request.ensures) c.append_bad_call-in_default.ensures
 
 pub reply-k-requires : goal.reply-k-requires
 reply-k-requires c = c.loop-at.invariant.0.standing
@@ -72,9 +72,9 @@ loop-at-smaller c =
 
 pub loop-at-preserved : goal.loop-at-preserved
 loop-at-preserved c =
-    let q = not-bad c.read_request-r.result c.in_default.not-Bad in (
+    let q = stands-for c.in-Some.r in (
       calls-turn _ _ _ _ c.loop-at.at c.loop-at.n c.loop-at.invariant.0 _ c.line_end-end.ensures c.if-calls-end.false q.0
-          (sym q.1 ∙ c.read_request-r.ensures) (c.reply-k.ensures q.0 q.1),
+          (sym q.1 ∙ ap request_is (sym c.in-Some.is) ∙ c.read_request.ensures) (c.reply-k.ensures q.0 q.1),
       c.reply-k.auto.model ∙ c.loop-at.invariant.1,
       c.reply-k.auto.log ∙ c.loop-at.invariant.2,
     )

@@ -21,12 +21,6 @@ tree_file-f-requires c =
 pub reply_merge-k-requires : goal.reply_merge-k-requires
 reply_merge-k-requires c = c.loop-t.invariant.0.standing
 
-pub overflow_add-t : goal.overflow_add-t
-overflow_add-t c = let h = c.loop-t-test.true in omega arith
-
-pub loop-t-smaller : goal.loop-t-smaller
-loop-t-smaller c = let h = c.loop-t-test.true in omega arith
-
 pub loop-t-preserved : goal.loop-t-preserved
 loop-t-preserved c = (
   trees-turn _ _ _ c.loop-t.t _ c.loop-t.invariant.0 _ c.loop-t-test.true c.tree_file-f.ensures c.reply_merge-k.ensures,

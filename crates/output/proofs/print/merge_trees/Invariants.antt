@@ -1,5 +1,4 @@
 use mathlib.Core.Path.{◌≡◌}
-use Prim.Native.Nat.{◌-◌}
 use lib.ListN.{length}
 use Rattle.tables.specs.ElementsTable.{elements_of}
 use Rattle.state_test.specs.StateTest.{fixed_in, state_in}
@@ -12,6 +11,3 @@ abbrev pub invariant-loop-t : goal.invariant-loop-t
 invariant-loop-t l =
     TreesLeft l.deck l.schema l.elements (buffer_is l.initial.k l.initial.out) (merge_lines (fixed_in l.deck l.schema l.elements) (elements_of l.elements).trees (state_in l.initial.model l.initial.log)) (buffer_is l.k l.out) l.t l.n l.model l.log
     × (length l.model ≡ length l.initial.model) × (length l.log ≡ length l.initial.log)
-
-abbrev pub decreases-loop-t : goal.decreases-loop-t
-decreases-loop-t l = l.n - l.t

@@ -1,8 +1,8 @@
 use Rattle.output.proofs.Laws.Runs.{listed-run, trees-run}
 use Rattle.output.proofs.print.run.Goals as goal
 
-pub returns-then-listed : goal.returns-then-listed
-returns-then-listed c = listed-run _ _ _ _ _ _ _ c.if-listed.true c.answer_calls.ensures
+pub returns-in-Some : goal.returns-in-Some
+returns-in-Some c = listed-run _ _ _ _ _ _ _ c.in-Some.is c.answer_calls.ensures
 
-pub returns : goal.returns
-returns c = trees-run _ _ _ _ _ _ _ c.if-listed.false c.merge_trees.ensures
+pub returns-in-None : goal.returns-in-None
+returns-in-None c = trees-run _ _ _ _ _ _ c.in-None.is c.merge_trees.ensures

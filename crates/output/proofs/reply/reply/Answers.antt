@@ -1,5 +1,5 @@
 use mathlib.Core.Path.{refl}
-use Rattle.output.proofs.Laws.Replies.{readable-standing, log-standing, model-replies, trees-replies, log-replies, of-request, bad-stands}
+use Rattle.output.proofs.Laws.Replies.{readable-standing, log-standing, model-replies, trees-replies, log-replies, of-request}
 use Rattle.output.proofs.reply.reply.Goals as goal
 
 pub append_model-requires : goal.append_model-requires
@@ -28,6 +28,3 @@ returns-in-Trees c = of-request _ _ _ _ c.in-Trees.is refl (trees-replies c.requ
 
 pub returns-in-Log : goal.returns-in-Log
 returns-in-Log c = of-request _ _ _ _ c.in-Log.is refl (log-replies c.requires c.append_log.ensures)
-
-pub returns-in-Bad : goal.returns-in-Bad
-returns-in-Bad c = λ q e. absurd (bad-stands _ q c.in-Bad.is e)
