@@ -17,9 +17,17 @@ pub enum Table {
 #[derive(Clone, Copy)]
 pub enum Call {
     Load,
-    Merge { file: u64 },
-    Rollback { mark: u64 },
-    Range { element: u64, name: u64, version: u64 },
+    Merge {
+        file: u64,
+    },
+    Rollback {
+        mark: u64,
+    },
+    Range {
+        element: u64,
+        name: u64,
+        version: u64,
+    },
     Test,
     Count,
 }
@@ -27,12 +35,30 @@ pub enum Call {
 // A step, with what its line says.
 #[derive(Clone, Copy)]
 pub enum Step<'a> {
-    Deck { file: &'a [u8] },
+    Deck {
+        file: &'a [u8],
+    },
     Call(Call),
-    Put { area: Area, row: u64, column: u64, value: u64, rows: u64 },
-    Show { name: &'a [u8], area: Area, row: u64, rows: u64 },
-    All { value: u64 },
-    Size { table: Table, cells: u64 },
+    Put {
+        area: Area,
+        row: u64,
+        column: u64,
+        value: u64,
+        rows: u64,
+    },
+    Show {
+        name: &'a [u8],
+        area: Area,
+        row: u64,
+        rows: u64,
+    },
+    All {
+        value: u64,
+    },
+    Size {
+        table: Table,
+        cells: u64,
+    },
     Keep,
     Back,
     Same,
@@ -63,7 +89,13 @@ fn read_put(script: &[u8], f: Fields) -> Option<Step<'_>>
     if area.width as u64 <= column {
         return None;
     }
-    Some(Step::Put { area, row, column, value, rows })
+    Some(Step::Put {
+        area,
+        row,
+        column,
+        value,
+        rows,
+    })
 }
 
 // `show,area,row,rows`
@@ -74,7 +106,16 @@ fn read_show(script: &[u8], f: Fields) -> Option<Step<'_>>
     let area = area_of(name)?;
     let row = word_at(script, f, 2)?;
     let rows = word_at(script, f, 3)?;
-    if f.count == 4 { Some(Step::Show { name, area, row, rows }) } else { None }
+    if f.count == 4 {
+        Some(Step::Show {
+            name,
+            area,
+            row,
+            rows,
+        })
+    } else {
+        None
+    }
 }
 
 // `size,table,cells`
@@ -89,7 +130,11 @@ fn read_size(script: &[u8], f: Fields) -> Option<Step<'_>>
         _ => return None,
     };
     let cells = word_at(script, f, 2)?;
-    if f.count == 3 { Some(Step::Size { table, cells }) } else { None }
+    if f.count == 3 {
+        Some(Step::Size { table, cells })
+    } else {
+        None
+    }
 }
 
 // `all,value`
@@ -97,7 +142,11 @@ fn read_all(script: &[u8], f: Fields) -> Option<Step<'_>>
     requires { Placed script.now f }
 {
     let value = word_at(script, f, 1)?;
-    if f.count == 2 { Some(Step::All { value }) } else { None }
+    if f.count == 2 {
+        Some(Step::All { value })
+    } else {
+        None
+    }
 }
 
 // `deck,file`
@@ -105,7 +154,11 @@ fn read_deck(script: &[u8], f: Fields) -> Option<Step<'_>>
     requires { Placed script.now f }
 {
     let file = field(script, f, 1);
-    if f.count == 2 { Some(Step::Deck { file }) } else { None }
+    if f.count == 2 {
+        Some(Step::Deck { file })
+    } else {
+        None
+    }
 }
 
 // The step of a line of one word.
@@ -145,7 +198,15 @@ pub fn of_request(r: Request) -> Option<Call> {
     match r {
         Request::Merge(file) => Some(Call::Merge { file }),
         Request::Rollback(mark) => Some(Call::Rollback { mark }),
-        Request::Range { element, name, version } => Some(Call::Range { element, name, version }),
+        Request::Range {
+            element,
+            name,
+            version,
+        } => Some(Call::Range {
+            element,
+            name,
+            version,
+        }),
         Request::Model | Request::Trees | Request::Log => None,
     }
 }
