@@ -130,8 +130,14 @@ fn answer(
         Call::Load => load_line(deck, schema, elements, model, log, out, w),
         Call::Merge { file } => merge_line(deck, schema, elements, model, log, file, out, w),
         Call::Rollback { mark } => rollback_line(deck, schema, elements, model, log, mark, out, w),
-        Call::Range { element, name, version } => {
-            range_line(deck, schema, elements, model, log, element, name, version, out, w)
+        Call::Range {
+            element,
+            name,
+            version,
+        } => {
+            range_line(
+                deck, schema, elements, model, log, element, name, version, out, w,
+            )
         }
         Call::Test => test_line(deck, schema, elements, model, log, out, w),
         Call::Count => count_line(schema, elements, model, log, out, w),

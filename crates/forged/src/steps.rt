@@ -112,12 +112,23 @@ fn make_step(
         Step::Call(call) => return Some(call_step(cells, deck, out, s, call)),
         Step::Same => return Some(compare(cells, BEFORE, out, s, b"same\n", b"changed\n")),
         Step::Kept => return Some(compare(cells, KEPT, out, s, b"kept\n", b"not kept\n")),
-        Step::Show { name, area, row, rows } => {
+        Step::Show {
+            name,
+            area,
+            row,
+            rows,
+        } => {
             let w = show_rows(name, cells, area, row, rows, out, output(s));
             return Some(printed(s, w));
         }
         Step::Size { table, cells } => return Some(resized(s, table, cells as usize)),
-        Step::Put { area, row, column, value, rows } => put(cells, area, row, column, rows, value),
+        Step::Put {
+            area,
+            row,
+            column,
+            value,
+            rows,
+        } => put(cells, area, row, column, rows, value),
         Step::All { value } => fill(cells, everything(), 0, 0, CELLS as u64, value),
         Step::Keep => copy(cells, 0, KEPT, CELLS),
         Step::Back => copy(cells, KEPT, 0, CELLS),

@@ -2,11 +2,11 @@
 // arguments says. Time is taken from outside.
 #![tactic(auto)]
 
-ghost use Rattle.std.specs.Prelude.{◌≤◌, length, IfOk};
+ghost use Rattle.std.specs.Prelude.{◌≤◌};
 
 use deck::fields::{Num, number};
+use inputs::{argument, read_all};
 use load::load::load;
-use std::env::FillError;
 use std::fs::File;
 use std::io;
 use std::io::{ErrorKind, Read};
@@ -61,24 +61,9 @@ fn load_deck(deck: &[u8], times: u64) -> u64 {
     )
 }
 
-// Fills the buffer as far as the file goes; the count of bytes read.
-fn read_full(file: &mut impl Read, buf: &mut [u8]) -> io::Result<usize>
-    ensures { IfOk result (λ n. n ≤ length buf.new) }
-{
-    let mut n: usize = 0;
-    while n < buf.len() {
-        let more = file.read(&mut buf[n..])?;
-        if more == 0 {
-            return Ok(n);
-        }
-        n += more;
-    }
-    Ok(n)
-}
-
 fn load_open(file: &mut impl Read, times: u64) -> io::Result<u64> {
     let mut deck = [0u8; DECK_LIMIT + 1];
-    let n = read_full(file, &mut deck)?;
+    let n = read_all(file, &mut deck)?;
     Ok(load_deck(&deck[..n], times))
 }
 
@@ -108,25 +93,12 @@ fn load_word(rt: &(impl Files + Print + Eprint), word: &[u8], times: u64) -> io:
     }
 }
 
-// The i-th argument, a deck or a number; how often the decks behind it are loaded. Nothing where there are no more.
-fn argument(
-    rt: &(impl Env + Files + Print + Eprint),
-    i: usize,
-    times: u64,
-) -> io::Result<Option<u64>> {
-    let mut word = [0u8; 4096];
-    match rt.arg(i, &mut word) {
-        Ok(n) => Ok(Some(load_word(rt, &word[..n], times)?)),
-        Err(FillError::NotPresent) => Ok(None),
-        Err(FillError::TooLong) => Err(io::Error::from(ErrorKind::InvalidFilename)),
-    }
-}
-
 fn main(rt: HostRuntime) -> io::Result<()> {
     let mut times: u64 = 1;
+    let mut buf = [0u8; 4096];
     for i in 1..usize::MAX {
-        match argument(&rt, i, times)? {
-            Some(next) => times = next,
+        match argument(&rt, i, &mut buf)? {
+            Some(word) => times = load_word(&rt, word, times)?,
             None => return Ok(()),
         }
     }

@@ -4,13 +4,13 @@
 // outside.
 #![tactic(auto)]
 
-ghost use Rattle.std.specs.Prelude.{◌≡◌, ◌≤◌, length, IfOk};
+ghost use Rattle.std.specs.Prelude.{◌≡◌, ◌≤◌, length};
 
 use deck::fields::{Num, number};
+use inputs::{argument, read_all};
 use load::load::load;
 use merge::calls::{MergeAnswer, copy, merge};
-use merge_log::refusals::Refusal;
-use std::env::FillError;
+use merge_log::refusals::refusal_fields;
 use std::fs::File;
 use std::io;
 use std::io::{ErrorKind, Read};
@@ -83,23 +83,10 @@ fn merge_often(
     requires old_log_len { length old_log.now ≡ length log.old }
 {
     let mut n: u64 = 0;
-    let mut i: u64 = 0;
-    while i < times {
+    for _ in 0..times {
         n += accepted(merge_anew(deck, schema, elements, old_model, old_log, model, log, file));
-        i += 1;
     }
     n
-}
-
-fn refusal_number(r: Refusal) -> u64 {
-    match r {
-        Refusal::NotWaiting => 5,
-        Refusal::Unmergeable(_) => 6,
-        Refusal::NotInVersion(_, _) => 7,
-        Refusal::UsedTwice(_) => 8,
-        Refusal::LogFull => 9,
-        _ => 10,
-    }
 }
 
 fn answer(rt: &impl Print, a: MergeAnswer) -> io::Result<()> {
@@ -112,7 +99,7 @@ fn answer(rt: &impl Print, a: MergeAnswer) -> io::Result<()> {
         }
         MergeAnswer::Refused(r) => {
             word(rt, b"refused")?;
-            field(rt, refusal_number(r))
+            field(rt, refusal_fields(r).number)
         }
         MergeAnswer::BadTables => word(rt, b"refused,0"),
     }
@@ -145,24 +132,9 @@ fn merge_deck(rt: &impl Print, deck: &[u8], file: u64, times: u64) -> io::Result
     word(rt, b"\n")
 }
 
-// Fills the buffer as far as the file goes; the count of bytes read.
-fn read_full(file: &mut impl Read, buf: &mut [u8]) -> io::Result<usize>
-    ensures { IfOk result (λ n. n ≤ length buf.new) }
-{
-    let mut n: usize = 0;
-    while n < buf.len() {
-        let more = file.read(&mut buf[n..])?;
-        if more == 0 {
-            return Ok(n);
-        }
-        n += more;
-    }
-    Ok(n)
-}
-
 fn merge_open(rt: &impl Print, file: &mut impl Read, number: u64, times: u64) -> io::Result<()> {
     let mut deck = [0u8; DECK_LIMIT + 1];
-    let n = read_full(file, &mut deck)?;
+    let n = read_all(file, &mut deck)?;
     merge_deck(rt, &deck[..n], number, times)
 }
 
@@ -200,25 +172,12 @@ fn merge_word(rt: &(impl Files + Print + Eprint), word: &[u8], w: Work) -> io::R
     }
 }
 
-// The i-th argument, a deck or a number; what is asked of the decks behind it. Nothing where there are no more.
-fn argument(
-    rt: &(impl Env + Files + Print + Eprint),
-    i: usize,
-    w: Work,
-) -> io::Result<Option<Work>> {
-    let mut word = [0u8; 4096];
-    match rt.arg(i, &mut word) {
-        Ok(n) => Ok(Some(merge_word(rt, &word[..n], w)?)),
-        Err(FillError::NotPresent) => Ok(None),
-        Err(FillError::TooLong) => Err(io::Error::from(ErrorKind::InvalidFilename)),
-    }
-}
-
 fn main(rt: HostRuntime) -> io::Result<()> {
     let mut w = Work { file: 1, times: 1 };
+    let mut buf = [0u8; 4096];
     for i in 1..usize::MAX {
-        match argument(&rt, i, w)? {
-            Some(next) => w = next,
+        match argument(&rt, i, &mut buf)? {
+            Some(word) => w = merge_word(&rt, word, w)?,
             None => return Ok(()),
         }
     }

@@ -4,8 +4,8 @@ ghost use Rattle.printing.specs.Counts.{IsPrefixLen};
 
 use crate::buffer::{MEGABYTE, megabyte};
 use crate::files::open_read;
-use crate::input::read_all;
 use deck::lines::line_end;
+use inputs::read_all;
 use std::io;
 use std::rt::Files;
 

@@ -5,6 +5,9 @@ use tables::limits::DECK_LIMIT;
 
 pub const MEGABYTE: usize = 1048576;
 
+// The most bytes of a list of calls: one less than the buffer has, so that a longer one is noticed.
+pub const CALLS_LIMIT: usize = MEGABYTE - 1;
+
 pub fn megabyte() -> [u8; MEGABYTE]
     ensures { 1048576 ≡ length result }
 {

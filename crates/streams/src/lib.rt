@@ -4,5 +4,4 @@
 pub mod answers;
 pub mod buffer;
 pub mod files;
-pub mod input;
 pub mod parts;

@@ -4,14 +4,14 @@
 // What is printed is proved, in `output`.
 #![tactic(auto)]
 
+use inputs::read_all;
 use std::env::FillError;
 use std::io;
 use std::io::{ErrorKind, Read};
 use std::process::ExitCode;
 use std::rt::{Env, Files};
-use streams::buffer::{deck_buffer, megabyte};
+use streams::buffer::{CALLS_LIMIT, deck_buffer, megabyte};
 use streams::files::{fail, open_read};
-use streams::input::{CALLS_LIMIT, read_all};
 use streams::parts::print_all;
 
 // A line on standard error: what it is about, and why.

@@ -1,5 +1,6 @@
+-- The bytes so far lie within the buffer, which keeps its length.
 use Rattle.std.proofs.Common.{◌-◌, ◌≡◌, ◌≤◌, length}
-use Rattle.merge_bench.proofs.read_full.Given as goal
+use Rattle.inputs.proofs.read_all.Given as goal
 
 abbrev pub invariant-loop-n : goal.invariant-loop-n
 invariant-loop-n g l = (l.n ≤ length l.buf) × (length l.buf ≡ length l.initial.buf)
