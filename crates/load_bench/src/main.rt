@@ -4,7 +4,7 @@
 
 ghost use Rattle.std.specs.Prelude.{◌≤◌};
 
-use deck::fields::{Num, number};
+use deck::fields::number;
 use inputs::{argument, read_all};
 use load::load::load;
 use std::fs::File;
@@ -82,8 +82,8 @@ fn load_file(rt: &(impl Files + Print + Eprint), name: &str, times: u64) -> io::
 fn load_word(rt: &(impl Files + Print + Eprint), word: &[u8], times: u64) -> io::Result<u64> {
     let v = number(word, 10, 1000000);
     match v {
-        Num::Number(m) => Ok(m),
-        Num::Bad => match std::str::from_utf8(word) {
+        Some(m) => Ok(m),
+        None => match std::str::from_utf8(word) {
             Ok(name) => {
                 load_file(rt, name, times)?;
                 Ok(times)

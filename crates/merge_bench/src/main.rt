@@ -6,7 +6,7 @@
 
 ghost use Rattle.std.specs.Prelude.{◌≡◌, ◌≤◌, length};
 
-use deck::fields::{Num, number};
+use deck::fields::number;
 use inputs::{argument, read_all};
 use load::load::load;
 use merge::calls::{MergeAnswer, copy, merge};
@@ -158,11 +158,11 @@ fn merge_file(
 fn merge_word(rt: &(impl Files + Print + Eprint), word: &[u8], w: Work) -> io::Result<Work> {
     let v = number(word, 10, 1000000);
     match v {
-        Num::Number(m) => Ok(Work {
+        Some(m) => Ok(Work {
             file: w.times,
             times: m,
         }),
-        Num::Bad => match std::str::from_utf8(word) {
+        None => match std::str::from_utf8(word) {
             Ok(name) => {
                 merge_file(rt, name, w.file, w.times)?;
                 Ok(w)

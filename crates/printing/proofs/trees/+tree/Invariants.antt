@@ -27,13 +27,9 @@ items deck elements model schema left e l =
 
 abbrev pub invariant-append_items-loop-i : goal.invariant-append_items-loop-i
 invariant-append_items-loop-i l =
-    (l.i ≤ l.n)
-    × ((schema : List ℕ)
+    (schema : List ℕ)
     → Leaves
     (buffer_is l.initial.k l.initial.out)
     (items l.deck l.elements l.model schema l.left l.e (list_of (model_of l.model) l.e))
     (buffer_is l.k l.out)
-    (items l.deck l.elements l.model schema l.left l.e (drop l.i (list_of (model_of l.model) l.e))))
-
-abbrev pub decreases-append_items-loop-i : goal.decreases-append_items-loop-i
-decreases-append_items-loop-i l = l.n - l.i
+    (items l.deck l.elements l.model schema l.left l.e (drop l.i (list_of (model_of l.model) l.e)))

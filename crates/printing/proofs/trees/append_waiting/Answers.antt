@@ -10,32 +10,32 @@ use borrow.Author.Rules.{rules}
 use Rattle.printing.proofs.trees.append_waiting.Goals as goal
 
 pub loop-t-init : goal.loop-t-init
-loop-t-init c = (search rules, λ schema. begin _ _)
+loop-t-init c = λ schema. begin _ _
 
 pub tree_file-requires : goal.tree_file-requires
 tree_file-requires c =
-    let h : c.loop-t.t < length (elements_of c.args.elements.now).trees = omega (arith, c.tree_count-n.ensures) in
+    let h : c.loop-t.t < length (elements_of c.args.elements.now).trees = omega (arith, c.tree_count-t-end.ensures) in
     record { good_elements = search rules; t_in_bounds = h }
 
 pub loop-t-preserved-then-holds : goal.loop-t-preserved-then-holds
 loop-t-preserved-then-holds c =
-    let h : c.loop-t.t < length (elements_of c.args.elements.now).trees = omega (arith, c.tree_count-n.ensures) in
+    let h : c.loop-t.t < length (elements_of c.args.elements.now).trees = omega (arith, c.tree_count-t-end.ensures) in
     let e = sym c.holds.ensures ∙ c.if-holds.true in
-    (omega arith, λ schema. merged-turn _ _ _ c.loop-t.t h (c.loop-t.invariant.1 schema) c.set_of-loaded.ensures c.tree_file.ensures e)
+    λ schema. merged-turn _ _ _ c.loop-t.t h (c.loop-t.invariant schema) c.set_of-loaded.ensures c.tree_file.ensures e
 
 pub append_tree-k-requires : goal.append_tree-k-requires
 append_tree-k-requires c =
-    let h : c.loop-t.t < length (elements_of c.args.elements.now).trees = omega (arith, c.tree_count-n.ensures) in
+    let h : c.loop-t.t < length (elements_of c.args.elements.now).trees = omega (arith, c.tree_count-t-end.ensures) in
     record { readable = c.requires; t_in_bounds = h }
 
 pub loop-t-preserved : goal.loop-t-preserved
 loop-t-preserved c =
-    let h : c.loop-t.t < length (elements_of c.args.elements.now).trees = omega (arith, c.tree_count-n.ensures) in
+    let h : c.loop-t.t < length (elements_of c.args.elements.now).trees = omega (arith, c.tree_count-t-end.ensures) in
     let e = sym c.holds.ensures ∙ c.if-holds.false in
-    (omega arith, λ schema. waiting-turn _ _ _ c.loop-t.t h (c.loop-t.invariant.1 schema) c.set_of-loaded.ensures c.tree_file.ensures e (c.append_tree-k.ensures schema))
+    λ schema. waiting-turn _ _ _ c.loop-t.t h (c.loop-t.invariant schema) c.set_of-loaded.ensures c.tree_file.ensures e (c.append_tree-k.ensures schema)
 
 pub shape_of-out : goal.shape_of-out
-shape_of-out c = as_long (c.loop-t.invariant.1 [])
+shape_of-out c = as_long (c.loop-t.invariant [])
 
 pub returns : goal.returns
-returns c = λ schema. waiting-end _ _ _ c.loop-t.t (omega (arith, c.tree_count-n.ensures)) (c.loop-t.invariant.1 schema)
+returns c = λ schema. waiting-end _ _ _ c.loop-t.t (omega (arith, c.tree_count-t-end.ensures)) (c.loop-t.invariant schema)

@@ -11,13 +11,9 @@ use Rattle.printing.proofs.trees.append_waiting.Given as goal
 
 abbrev pub invariant-loop-t : goal.invariant-loop-t
 invariant-loop-t l =
-    (l.t ≤ l.n)
-    × ((schema : List ℕ)
+    (schema : List ℕ)
     → Leaves
     (buffer_is l.initial.k l.initial.out)
     (kept_lines (fixed_in l.deck schema l.elements) (model_of l.model) (elements_of l.elements).trees)
     (buffer_is l.k l.out)
-    (kept_lines (fixed_in l.deck schema l.elements) (model_of l.model) (drop l.t (elements_of l.elements).trees)))
-
-abbrev pub decreases-loop-t : goal.decreases-loop-t
-decreases-loop-t l = l.n - l.t
+    (kept_lines (fixed_in l.deck schema l.elements) (model_of l.model) (drop l.t (elements_of l.elements).trees))
