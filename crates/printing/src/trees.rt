@@ -143,9 +143,10 @@ fn append_waiting(
     let loaded = set_of(model, Element(0));
     let mut k = w;
     for t in 0..tree_count(elements) {
-        if !loaded.holds(tree_file(elements, t)) {
-            k = append_tree(deck, elements, model, out, k, t);
+        if loaded.holds(tree_file(elements, t)) {
+            continue;
         }
+        k = append_tree(deck, elements, model, out, k, t);
     }
     k
 }

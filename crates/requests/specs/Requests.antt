@@ -1,16 +1,11 @@
 -- What a request of the code stands for in the rules. Assumes nothing.
-use Rattle.std.specs.Prelude.{Option as OptionOf, Some, None, ℕ}
+use Rattle.std.specs.Prelude.{Option as OptionOf, Some, None}
 use Rattle.std.proofs.Math.Option.{Option, none, some}
 use Rattle.merge_rules.specs.Book.{call_merge, call_rollback, call_range}
 use Rattle.merge_rules.specs.CallLists as rules
 use Rattle.merge_rules.specs.CallLists.{of_call, of_model, of_trees, of_log}
 use Rattle.requests.specs.declared.requests.Request.{Request}
 use Rattle.requests.specs.declared.requests.Request.TheVariants.{Merge, Rollback, Range, Model, Trees, Log}
-
--- a number that the code read, or none
-unfoldable pub word_is : OptionOf ℕ → Option ℕ
-word_is (Some n) = some n
-word_is None = none
 
 abbrev pub request_is : OptionOf Request → Option rules.Request
 request_is (Some (Merge f)) = some (of_call (call_merge f))

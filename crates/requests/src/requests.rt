@@ -3,12 +3,12 @@ ghost use Rattle.std.specs.Prelude.{List, Option, Some, ◌≡◌, ℕ, ◌≤�
 ghost use Rattle.std.proofs.Math.Option.{some};
 ghost use Rattle.tables.specs.Lists.{same_list};
 ghost use Rattle.deck.specs.Deck.{field};
-ghost use Rattle.deck.specs.Answers.{part_at, fields_of, Placed};
+ghost use Rattle.deck.specs.Answers.{part_at, fields_of, Placed, num_is};
 ghost use Rattle.merge_rules.specs.CallLists.{word_field, line_merge, line_rollback, line_range, line_alone, by_word, read_request};
 ghost use Rattle.merge_rules.specs.CallLists as rules;
-ghost use Rattle.requests.specs.Requests.{request_is, word_is};
+ghost use Rattle.requests.specs.Requests.{request_is};
 
-use deck::fields::{Num, WORD_LIMIT};
+use deck::fields::WORD_LIMIT;
 use deck::lines::{Fields, number_at, places, split};
 
 // What a line asks for.
@@ -44,12 +44,9 @@ fn begins_with(calls: &[u8], f: Fields, word: &[u8]) -> bool
 // Field i as a number of 64 bits.
 pub fn word_at(calls: &[u8], f: Fields, i: usize) -> Option<u64>
     requires { Placed calls.now f }
-    ensures { word_is result ≡ word_field (field (fields_of calls.now f) i) }
+    ensures { num_is result ≡ word_field (field (fields_of calls.now f) i) }
 {
-    match number_at(calls, f, i, 10, WORD_LIMIT) {
-        Num::Number(n) => Some(n),
-        Num::Bad => None,
-    }
+    number_at(calls, f, i, 10, WORD_LIMIT)
 }
 
 // `merge,file`

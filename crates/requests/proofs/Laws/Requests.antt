@@ -18,7 +18,7 @@ use Rattle.deck.specs.declared.lines.Fields.{Fields}
 use Rattle.deck.proofs.Laws.Lines.{fields-count}
 use Rattle.merge_rules.specs.CallLists.{Request, line_merge, line_rollback, line_range, line_alone, of_model, of_trees, of_log, words, by_word, read_request}
 use Rattle.merge_rules.proofs.Laws.Lists.{each_in, first_of-some}
-use Rattle.requests.specs.Requests.{word_is}
+use Rattle.deck.specs.Answers.{num_is}
 
 -- ---- two words
 
@@ -36,13 +36,13 @@ equal-same (a ∷ s) (b ∷ w) = both (eqb a b) (equal-same s w)
 
 -- ---- a number of a line, and the count of its fields
 
-module _ (o : Option ℕ) (n : OptionOf ℕ) (e : word_is n ≡ o) (k : ℕ → Option Request) where
+module _ (o : Option ℕ) (n : OptionOf ℕ) (e : num_is n ≡ o) (k : ℕ → Option Request) where
   pub word-missing : n ≡ None → none ≡ bind o k
-  unfolding word_is bind
+  unfolding num_is bind
   word-missing h = rw (← e, h)
 
   pub word-read : (v : ℕ) → n ≡ Some v → k v ≡ bind o k
-  unfolding word_is bind
+  unfolding num_is bind
   word-read v h = rw (← e, h)
 
 module _ (calls : List ℕ) (f : Fields) (w : Placed calls f) (n : ℕ) (q : Request) where
