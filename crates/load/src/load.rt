@@ -92,6 +92,7 @@ fn read_lines(
     let mut p = start();
     let mut at = 0;
     let mut n: u64 = 0;
+    // No `for`: where a line ends is known once it is read.
     while at < deck.len() {
         let number = n + 1;
         let Some(next) = line_from(deck, at) else {

@@ -20,7 +20,7 @@ impl Refusal {
     }
 }
 
-// line: from 1; 0 where no line is to blame.
+// line: counted from 1; 0 where no line was read.
 #[derive(Clone, Copy, PartialEq, Eq)]
 pub struct LoadError {
     pub refusal: Refusal,
