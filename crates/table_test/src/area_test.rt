@@ -80,14 +80,12 @@ impl Area {
         }
         let w = self.width();
         let n = count as usize;
-        let mut i: usize = 0;
-        while i < n {
+        for i in 0..n {
             let a = i * w;
             let b = a + w;
             if !self.row_passes(&area[a..b]) {
                 return false;
             }
-            i += 1;
         }
         let end = n * w;
         scan::all_zero(&area[end..])

@@ -16,10 +16,8 @@ fn same_cells(s: &[u64], t: &[u64]) -> bool
     ensures { result ≡ same_list s.now t.now }
 {
     let mut same = true;
-    let mut j = 0;
-    while (j < s.len()) & (j < t.len()) {
+    for j in 0..s.len() {
         same = same & (s[j] == t[j]);
-        j += 1;
     }
     same
 }
@@ -78,12 +76,9 @@ pub fn fill_index(cells: &mut [u64], t: &[u64], x: Index)
     requires cells_value { cells.old ≡ empty_index }
     ensures { cells.new ≡ index_of (schema_of t.now) x }
 {
-    let n = places_in(t, x);
-    let mut i: usize = 0;
-    while i < n {
+    for i in 0..places_in(t, x) {
         let b = key_in(t, x, i);
         link(cells, 0, i, b);
-        i += 1;
     }
 }
 

@@ -17,13 +17,10 @@ fn rises(s: &[u64]) -> bool
     ensures { result ≡ rising 0 s.now }
 {
     let mut all = true;
-    let mut last: u64 = 0;
-    let mut j = 0;
-    while j < s.len() {
-        let x = s[j];
-        all = all & (last <= x);
-        last = x;
-        j += 1;
+    let mut last = 0;
+    for x in s {
+        all = all & (last <= *x);
+        last = *x;
     }
     all & (last <= ITEM_LIMIT as u64)
 }
@@ -41,10 +38,8 @@ fn cells_in_range(s: &[u64], n: u64, texts: u64) -> bool
     ensures { result ≡ all_of (cell_in_range n texts) s.now }
 {
     let mut all = true;
-    let mut j = 0;
-    while j < s.len() {
-        all = all & cell_in_range(s[j], n, texts);
-        j += 1;
+    for c in s {
+        all = all & cell_in_range(*c, n, texts);
     }
     all
 }
@@ -56,9 +51,7 @@ fn once(list: &[u64], marks: &mut [u64], mark: u64) -> bool
     ensures value { result ≡ once_in (map cell_item list.now) }
     ensures by_index_2 { (k : ℕ) → get_or marks.new k 0 ≤ mark }
 {
-    let mut j = list.len();
-    while 0 < j {
-        j -= 1;
+    for j in (0..list.len()).rev() {
         let c = list[j];
         if c < model::TEXT_CELLS_AT {
             let k = c as usize;
@@ -133,22 +126,18 @@ fn lists_once(t: &[u64]) -> bool
     requires { GoodModel t.now }
     ensures { result ≡ model_once (model_of t.now) }
 {
-    let n = model::count(t);
     let mut marks = [0u64; ELEMENT_LIMIT];
-    let mut e: usize = 0;
-    while e < n {
+    for e in 0..model::count(t) {
         let i = model::STARTS_AT + e;
         let a = model::ITEMS_AT + t[i] as usize;
         let size = model::list_length(t, Element(e));
         if size < 2 {
-            e += 1;
             continue;
         }
         let b = a + size;
         if !once(&t[a..b], &mut marks, e as u64 + 1) {
             return false;
         }
-        e += 1;
     }
     true
 }

@@ -11,11 +11,9 @@ const BLOCK: usize = 16;
 fn bits_of(s: &[u64]) -> u64
     ensures { eqb result 0 ≡ all_of is_zero s.now }
 {
-    let mut any: u64 = 0;
-    let mut j = 0;
-    while j < s.len() {
-        any = any | s[j];
-        j += 1;
+    let mut any = 0;
+    for x in s {
+        any = any | *x;
     }
     any
 }
@@ -38,10 +36,8 @@ pub fn all_at_most(s: &[u64], n: u64) -> bool
     ensures { result ≡ all_of (at_most n) s.now }
 {
     let mut all = true;
-    let mut j = 0;
-    while j < s.len() {
-        all = all & (s[j] <= n);
-        j += 1;
+    for x in s {
+        all = all & (*x <= n);
     }
     all
 }

@@ -68,14 +68,12 @@ fn files_ascend(area: &[u64], count: usize) -> bool
     requires { count * file_width ≤ length area.now }
     ensures { result ≡ files_ascend (rows_in file_width count area.now) }
 {
-    let mut i: usize = 0;
-    while i + 1 < count {
-        let a = i * schema::FILE_WIDTH;
-        let b = a + schema::FILE_WIDTH;
+    for i in 1..count {
+        let a = (i - 1) * schema::FILE_WIDTH;
+        let b = i * schema::FILE_WIDTH;
         if area[b] <= area[a] {
             return false;
         }
-        i += 1;
     }
     true
 }

@@ -2,14 +2,14 @@
 use mathlib.Core.List.{List, [], ◌∷◌}
 use mathlib.Core.Option.{Option}
 use mathlib.Core.Path.{◌≡◌, refl, sym, ap, subst, ◌∙◌}
-use Prim.Native.Nat.{ℕ, suc, ◌+◌, ◌≤◌, ◌<◌}
+use Prim.Native.Nat.{ℕ, ◌+◌, ◌≤◌, ◌<◌}
 use native.Mathlib.Omega.{arith}
 use lib.ListN.{length, drop, length-set}
 use Rattle.tables.specs.Cells.{Each}
 use Rattle.tables.specs.Limits.{item_limit}
 use Rattle.tables.specs.LogTable.{log_of, HoldsLog}
 use Rattle.tables.specs.ModelTable.{flat, start_of, count_of, model_of, ItemBelow, GoodModel, HoldsModel}
-use Rattle.tables.specs.Records.{Element, FileSet, Item, child, text, Model, Entry, Log, list_of, put_parent, put_set, put_list, insert_item, insert_items, put_item, remove_items}
+use Rattle.tables.specs.Records.{Element, FileSet, Item, child, text, Model, Entry, list_of, put_parent, put_set, put_list, insert_item, insert_items, put_item, remove_items}
 use Rattle.tables.proofs.Laws.Cells.{each_set, each-imp}
 use Rattle.tables.proofs.Laws.Lists.{each-insert_run, each-remove_run, flat-insert_run, flat-remove, flat-set}
 use Rattle.tables.proofs.Laws.Model.{insert_items-one}

@@ -1,13 +1,12 @@
 -- The test of an index: its cells compared, its rows' buckets from their cells, and the index that passes. Assumes nothing.
-use mathlib.Core.Bool.{Bool, true, false, false≢true, ◌&&◌, and-true, and-eq-true_iff}
+use mathlib.Core.Bool.{Bool, true, ◌&&◌, and-true}
 use mathlib.Core.List.{List, ◌++◌, append-nil}
-use mathlib.Core.Path.{◌≡◌, refl, sym, ap, ◌∙◌}
+use mathlib.Core.Path.{◌≡◌, sym, ap, ◌∙◌}
 use Prim.Native.Nat.{ℕ, ◌+◌, ◌*◌, ◌≤◌, ◌<◌}
 use native.Mathlib.Nat.{zero-add, add-zero}
 use native.Mathlib.Numerals.{add-one}
 use native.Mathlib.Omega.{arith}
-use borrow.Author.Tests.{ltb-true, ltb-false}
-use lib.Dec.{eqb, ltb}
+use lib.Dec.{eqb}
 use lib.ListN.{length, get_or, take, drop, drop_of_length-le, take-append-drop}
 use lib.Seq.{drop-drop, get_or-take, get_or-drop}
 use Rattle.tables.specs.Cells.{rows_of, row_at}
@@ -28,27 +27,17 @@ use Rattle.table_test.proofs.Laws.RowsTest.{every-at}
 
 -- ---- two lists of one length, b being the answer for the cells before j
 
-pub both_below : (j m n : ℕ) → ltb j m && ltb j n ≡ true → (j < m) × (j < n)
-both_below j m n h = let both = (and-eq-true_iff (ltb j m) (ltb j n)).0 h in (ltb-true j m both.0, ltb-true j n both.1)
-
 module _ (b : Bool) (s w : List ℕ) (j : ℕ) (k : length s ≡ length w) where
-  pub same_more : ltb j (length s) && ltb j (length w) ≡ true
+  pub same_more : j < length s
       → (b && eqb (get_or s j 0) (get_or w j 0)) && same_list (drop (j + 1) s) (drop (j + 1) w) ≡ b && same_list (drop j s) (drop j w)
   unfolding same_list
   same_more h =
-      let below = both_below j (length s) (length w) h in
-      rw (drop-next s j 0 below.0, drop-next w j 0 below.1, same_list)
+      rw (drop-next s j 0 h, drop-next w j 0 (omega arith), same_list)
       (and-all b (eqb (get_or s j 0) (get_or w j 0)) (same_list (drop (j + 1) s) (drop (j + 1) w)))
 
-  pub same_end : ltb j (length s) && ltb j (length w) ≡ false → b ≡ b && same_list (drop j s) (drop j w)
+  pub same_end : length s ≤ j → b ≡ b && same_list (drop j s) (drop j w)
   unfolding same_list
-  same_end f =
-      let h : length s ≤ j = not-below (ltb j (length s)) refl in
-      rw (drop_of_length-le s {i = j} h, drop_of_length-le w {i = j} (omega arith)) (sym (and-true b))
-    where
-      not-below : (t : Bool) → ltb j (length s) ≡ t → length s ≤ j
-      not-below true e = absurd (false≢true (sym f ∙ rw (e, ← k) e))
-      not-below false e = ltb-false j (length s) e
+  same_end h = rw (drop_of_length-le s {i = j} h, drop_of_length-le w {i = j} (omega arith)) (sym (and-true b))
 
 -- ---- what the table says, each area from its place
 

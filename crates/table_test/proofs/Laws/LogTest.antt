@@ -1,6 +1,6 @@
 -- The test of a log table: a table that passes is the encoding of what it says. Assumes nothing.
 use mathlib.Core.Bool.{true}
-use mathlib.Core.List.{List, ◌∷◌, reverse, reverse-reverse}
+use mathlib.Core.List.{List, ◌∷◌, reverse-reverse}
 use mathlib.Core.Path.{◌≡◌, sym, ap, ◌∙◌}
 use Prim.Native.Nat.{ℕ, zero, suc, ◌≤◌}
 use native.Mathlib.Omega.{arith}

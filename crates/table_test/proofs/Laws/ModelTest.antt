@@ -10,7 +10,7 @@ use borrow.Author.Tests.{eqb-true, leb-true, ltb-true, le-leb, eq-eqb}
 use lib.Dec.{eqb, leb, ltb}
 use lib.ListN.{length, get_or, take, drop, replicate, length-replicate, length-map, length-drop, take-append-drop}
 use lib.Seq.{drop_at, take_at, take-add, take_all, drop-drop, drop-cons, drop-append-add, length-take-le, get_or-take, get_or-drop}
-use Rattle.tables.specs.Cells.{padded, cells, row_cells, rows_of, row_at, Each, between}
+use Rattle.tables.specs.Cells.{padded, cells, row_cells, row_at, Each, between}
 use Rattle.tables.specs.Limits.{element_limit, item_limit}
 use Rattle.tables.specs.Lists.{any_of, all_of, sum}
 use Rattle.tables.specs.Records.{Item, child, text, content_items, list_of}

@@ -1,21 +1,21 @@
 -- The table of elements whose numbers are in their ranges passes. Assumes nothing.
 use mathlib.Core.Bool.{true}
-use mathlib.Core.List.{List, [], ◌∷◌, ◌++◌, append-nil}
-use mathlib.Core.Path.{◌≡◌, refl, sym, ◌∙◌}
+use mathlib.Core.List.{List, [], ◌∷◌, ◌++◌}
+use mathlib.Core.Path.{◌≡◌, refl, sym}
 use Prim.Native.Nat.{ℕ, ◌+◌, ◌*◌, ◌/◌, ◌%◌, ◌≤◌, ◌<◌}
 use native.Mathlib.Omega.{arith}
 use borrow.Author.Tests.{eq-eqb, le-leb, lt-ltb}
-use lib.ListN.{length, drop}
-use Rattle.tables.specs.Cells.{Each, cells}
-use Rattle.tables.specs.Limits.{element_limit, item_limit, file_limit, depth_limit, name_limit, enum_limit, string_limit}
+use lib.ListN.{length}
+use Rattle.tables.specs.Cells.{Each}
+use Rattle.tables.specs.Limits.{file_limit, depth_limit, name_limit, enum_limit, string_limit}
 use Rattle.tables.specs.Records.{Text, enum_number, string, whole_number, float, Tree, Elements}
 use Rattle.tables.specs.Texts.{text_kind, text_value}
-use Rattle.tables.specs.ElementsTable.{elements_size, elements_at, texts_at, trees_at, ElementRow, element_rows, element_cells, text_cells, tree_cells, encode_elements, TextFits, SizedElements}
+use Rattle.tables.specs.ElementsTable.{elements_size, elements_at, texts_at, trees_at, ElementRow, element_rows, element_cells, text_cells, tree_cells, encode_elements, TextFits}
 use Rattle.table_test.specs.AreaTest.{row_passes}
 use Rattle.table_test.specs.ElementsTest.{is_elements_table, TextIn, TreeIn}
 use Rattle.table_test.specs.declared.area_test.Area.TheVariants as area
 use Rattle.table_test.specs.Passing.{ElementsIn}
-use Rattle.tables.proofs.Laws.Cells.{length-cells, each-imp, each_both}
+use Rattle.tables.proofs.Laws.Cells.{each-imp, each_both}
 use Rattle.tables.proofs.Laws.ElementsTable.{wide-element, wide-text, wide-tree, length-element_rows, elements-size, rows, rows_fit, text_area, tree_area, from-elements, from-texts, from-trees}
 use Rattle.table_test.proofs.Laws.PassingRows.{area-passes}
 

@@ -1,12 +1,12 @@
 -- The test of an area of rows: an area that is the encoding of rows which pass, passes. Assumes nothing.
 use mathlib.Core.Bool.{Bool, true}
 use mathlib.Core.List.{List, [], ◌∷◌, ◌++◌, map, append_assoc}
-use mathlib.Core.Path.{◌≡◌, refl, sym, ap, ◌∙◌}
+use mathlib.Core.Path.{◌≡◌, refl, ap, ◌∙◌}
 use Prim.Native.Nat.{ℕ, ◌+◌, ◌*◌, ◌-◌, ◌≤◌}
 use native.Mathlib.Nat.{add-sub_cancel_left}
 use borrow.Author.Tests.{le-leb}
 use lib.ListN.{length, take, drop, replicate}
-use lib.Seq.{take_at, drop_at, drop-drop}
+use lib.Seq.{take_at, drop_at}
 use Rattle.tables.specs.Cells.{padded, Each, row_cells, cells, rows_of, between}
 use Rattle.tables.specs.Lists.{all_of}
 use Rattle.table_test.specs.ModelTest.{is_zero}

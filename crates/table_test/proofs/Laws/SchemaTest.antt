@@ -2,7 +2,7 @@
 use mathlib.Core.Bool.{true, false, ◌&&◌, and-eq-true_iff}
 use mathlib.Core.List.{List, [], ◌∷◌, ◌++◌}
 use mathlib.Core.Path.{◌≡◌, refl, sym, ap, ◌∙◌, subst}
-use Prim.Native.Nat.{ℕ, zero, suc, ◌+◌, ◌*◌, ◌≤◌, ◌<◌}
+use Prim.Native.Nat.{ℕ, zero, suc, ◌+◌, ◌-◌, ◌*◌, ◌≤◌, ◌<◌}
 use native.Mathlib.Nat.{add-zero}
 use native.Mathlib.Numerals.{add-one}
 use native.Mathlib.Omega.{arith}
@@ -37,31 +37,31 @@ module _ (n : ℕ) (s : List ℕ) where
       ∙ get_or-drop (i * 2) s 0 0
       ∙ ap (λ (k : ℕ). get_or s k 0) (add-zero (i * 2))
 
-  -- the file at i, and the files behind it
-  ascend-front : (i : ℕ) → i + 1 < n
-      → files_ascend (drop i (rows_in 2 n s)) ≡ ltb (get_or s (i * 2) 0) (get_or s (i * 2 + 2) 0) && files_ascend (drop (i + 1) (rows_in 2 n s))
+  -- the file before that at i, and the files behind it
+  ascend-front : (i : ℕ) → 0 < i → i < n
+      → files_ascend (drop (i - 1) (rows_in 2 n s)) ≡ ltb (get_or s ((i - 1) * 2) 0) (get_or s (i * 2) 0) && files_ascend (drop i (rows_in 2 n s))
   unfolding files_ascend
-  ascend-front i h =
+  ascend-front i some h =
       let rows : List (List ℕ) = rows_in 2 n s in
       let c = row_count_lem 2 n s in
-      let a : drop i rows ≡ get_or rows i [] ∷ drop (suc i) rows = drop-cons rows i [] (omega arith) in
-      let b : drop (suc i) rows ≡ get_or rows (suc i) [] ∷ drop (suc (suc i)) rows = drop-cons rows (suc i) [] (omega arith) in
-      let e : suc i * 2 ≡ i * 2 + 2 = omega arith in
-      let f = file-at i (omega arith) in
-      let g : get_or (get_or rows (suc i) []) 0 0 ≡ get_or s (i * 2 + 2) 0 = file-at (suc i) (omega arith) ∙ ap (λ (k : ℕ). get_or s k 0) e in
-      rw (add-one i, a, b, f, g)
+      let z : suc (i - 1) ≡ i = omega arith in
+      let a : drop (i - 1) rows ≡ get_or rows (i - 1) [] ∷ drop i rows =
+      drop-cons rows (i - 1) [] (omega arith) ∙ ap (λ (k : ℕ). get_or rows (i - 1) [] ∷ drop k rows) z
+      in
+      let b : drop i rows ≡ get_or rows i [] ∷ drop (suc i) rows = drop-cons rows i [] (omega arith) in
+      rw (a, b, file-at (i - 1) (omega arith), file-at i h)
 
-  pub ascend-stop : (i : ℕ) → i + 1 < n → get_or s (i * 2 + 2) 0 ≤ get_or s (i * 2) 0
-      → files_ascend (drop i (rows_in 2 n s)) ≡ files_ascend (rows_in 2 n s) → false ≡ files_ascend (rows_in 2 n s)
-  ascend-stop i h e inv = (rw (ascend-front i h, le-ltb (get_or s (i * 2) 0) (get_or s (i * 2 + 2) 0) e) at inv)
+  pub ascend-stop : (i : ℕ) → 0 < i → i < n → get_or s (i * 2) 0 ≤ get_or s ((i - 1) * 2) 0
+      → files_ascend (drop (i - 1) (rows_in 2 n s)) ≡ files_ascend (rows_in 2 n s) → false ≡ files_ascend (rows_in 2 n s)
+  ascend-stop i some h e inv = (rw (ascend-front i some h, le-ltb (get_or s ((i - 1) * 2) 0) (get_or s (i * 2) 0) e) at inv)
 
-  pub ascend-more : (i : ℕ) → i + 1 < n → get_or s (i * 2) 0 < get_or s (i * 2 + 2) 0
-      → files_ascend (drop i (rows_in 2 n s)) ≡ files_ascend (rows_in 2 n s) → files_ascend (drop (i + 1) (rows_in 2 n s)) ≡ files_ascend (rows_in 2 n s)
-  ascend-more i h e inv = (rw (ascend-front i h, lt-ltb (get_or s (i * 2) 0) (get_or s (i * 2 + 2) 0) e) at inv)
+  pub ascend-more : (i : ℕ) → 0 < i → i < n → get_or s ((i - 1) * 2) 0 < get_or s (i * 2) 0
+      → files_ascend (drop (i - 1) (rows_in 2 n s)) ≡ files_ascend (rows_in 2 n s) → files_ascend (drop i (rows_in 2 n s)) ≡ files_ascend (rows_in 2 n s)
+  ascend-more i some h e inv = (rw (ascend-front i some h, lt-ltb (get_or s ((i - 1) * 2) 0) (get_or s (i * 2) 0) e) at inv)
 
-  pub ascend-end : (i : ℕ) → n ≤ i + 1 → files_ascend (drop i (rows_in 2 n s)) ≡ files_ascend (rows_in 2 n s) → true ≡ files_ascend (rows_in 2 n s)
+  pub ascend-end : (i : ℕ) → n ≤ i → files_ascend (drop (i - 1) (rows_in 2 n s)) ≡ files_ascend (rows_in 2 n s) → true ≡ files_ascend (rows_in 2 n s)
   unfolding files_ascend
-  ascend-end i h inv = sym (few-ascend (drop i (rows_in 2 n s)) (rw (length-drop i (rows_in 2 n s), row_count_lem 2 n s) (omega arith))) ∙ inv
+  ascend-end i h inv = sym (few-ascend (drop (i - 1) (rows_in 2 n s)) (rw (length-drop (i - 1) (rows_in 2 n s), row_count_lem 2 n s) (omega arith))) ∙ inv
     where
       few-ascend : (l : List (List ℕ)) → length l ≤ 1 → files_ascend l ≡ true
       few-ascend [] k = refl

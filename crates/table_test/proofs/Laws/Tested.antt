@@ -1,7 +1,7 @@
 -- Lent tables that passed their test are what the calls after load need of them. Assumes nothing.
-use mathlib.Core.Bool.{true, and-eq-true_iff}
+use mathlib.Core.Bool.{true}
 use mathlib.Core.List.{List, [], ◌∷◌}
-use mathlib.Core.Path.{◌≡◌, sym, ap, ◌∙◌}
+use mathlib.Core.Path.{◌≡◌}
 use Prim.Native.Nat.{ℕ, ◌<◌}
 use native.Mathlib.Omega.{arith}
 use borrow.Author.Tests.{ltb-true}
@@ -16,7 +16,7 @@ use Rattle.table_test.specs.Passing.{ItemTextIn}
 use Rattle.table_test.specs.TablesTest.{TestedTables}
 use Rattle.tables.proofs.Laws.Cells.{each-get_d}
 use Rattle.tables.proofs.Laws.Scans.{all_head, all_tail}
-use Rattle.table_test.specs.Fits.{GoodFixed, ModelFits, LogFits, ModelOver}
+use Rattle.table_test.specs.Fits.{GoodFixed, LogFits, ModelOver}
 
 -- an element's type is one of so many
 pub type-in : (elements : List ℕ) (n e : ℕ) → GoodElements elements → Each (λ (t : ℕ). t < n) (elements_of elements).types

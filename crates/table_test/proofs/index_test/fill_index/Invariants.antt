@@ -1,11 +1,7 @@
 use mathlib.Core.Path.{◌≡◌}
-use Prim.Native.Nat.{◌-◌, ◌≤◌}
 use Rattle.tables.specs.Index.{index_cells}
 use Rattle.tables.specs.SchemaTable.{key_in, schema_of}
 use Rattle.table_test.proofs.index_test.fill_index.Given as goal
 
 abbrev pub invariant-loop-i : goal.invariant-loop-i
-invariant-loop-i l = (l.cells ≡ index_cells (key_in (schema_of l.t) l.x) l.i) × (l.i ≤ l.n)
-
-abbrev pub decreases-loop-i : goal.decreases-loop-i
-decreases-loop-i l = l.n - l.i
+invariant-loop-i l = l.cells ≡ index_cells (key_in (schema_of l.t) l.x) l.i

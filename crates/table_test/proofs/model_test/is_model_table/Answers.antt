@@ -1,4 +1,3 @@
-use mathlib.Core.Bool.{true}
 use mathlib.Core.Path.{sym, ◌∙◌}
 use Rattle.table_test.specs.ModelTest.{is_model_table}
 use Rattle.table_test.proofs.Laws.ModelTest.{shaped, tested-good}

@@ -1,5 +1,5 @@
 use mathlib.Core.Path.{◌∙◌}
-use Prim.Native.Nat.{◌-◌, ◌<◌}
+use Prim.Native.Nat.{◌<◌}
 use native.Mathlib.Omega.{arith}
 use Rattle.tables.specs.ModelTable.{model_of, count_of}
 use Rattle.table_test.proofs.Laws.ModelTest.{once-start, once-few, once-stop, once_more, once-end, list-fits}
@@ -36,9 +36,6 @@ slice_bounds-once-end c =
     let xs = c.args.t.now in
     let f = list-fits xs c.requires c.loop-e.e (omega arith) in
     omega arith
-
-pub once-requires : goal.once-requires
-once-requires c = record { marks_len = c.loop-e.invariant.size; by_index = λ k. omega (arith, c.loop-e.invariant.most k) }
 
 pub returns-then-not-once : goal.returns-then-not-once
 returns-then-not-once c =

@@ -3,6 +3,3 @@ use Rattle.table_test.proofs.model_test.once.Given as goal
 
 abbrev pub invariant-loop-j : goal.invariant-loop-j
 invariant-loop-j l = Marked l.list l.marks l.mark l.j
-
-abbrev pub decreases-loop-j : goal.decreases-loop-j
-decreases-loop-j l = l.j

@@ -1,15 +1,11 @@
-use mathlib.Core.Path.{refl, ◌∙◌}
-use Prim.Native.Nat.{◌-◌}
+use mathlib.Core.Path.{◌∙◌}
 use Rattle.table_test.proofs.Laws.Scans.{rising-next, rising-done}
 use Rattle.table_test.proofs.model_test.rises.Goals as goal
 
-pub loop-j-init : goal.loop-j-init
-loop-j-init c = refl
-
-pub loop-j-preserved : goal.loop-j-preserved
-loop-j-preserved c =
-    rising-next c.loop-j.all c.loop-j.last c.args.s.now c.loop-j.j c.loop-j-test.true ∙ c.loop-j.invariant
+pub loop-x-preserved : goal.loop-x-preserved
+loop-x-preserved c =
+    rising-next c.loop-x.all c.loop-x.last c.args.s.now c.loop-x.x-index c.loop-x-test.true ∙ c.loop-x.invariant
 
 pub returns : goal.returns
 returns c =
-    rising-done c.loop-j.all c.loop-j.last c.args.s.now c.loop-j.j c.loop-j-test.false ∙ c.loop-j.invariant
+    rising-done c.loop-x.all c.loop-x.last c.args.s.now c.loop-x.x-index c.loop-x-test.false ∙ c.loop-x.invariant

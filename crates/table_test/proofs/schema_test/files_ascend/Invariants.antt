@@ -1,12 +1,9 @@
 use Rattle.table_test.specs.AreaTest.{rows_in}
 use Rattle.table_test.specs.SchemaTest.{files_ascend}
 use lib.ListN.{drop}
-use Prim.Native.Nat.{◌-◌, ◌≤◌}
+use Prim.Native.Nat.{◌-◌}
 use mathlib.Core.Path.{◌≡◌}
 use Rattle.table_test.proofs.schema_test.files_ascend.Given as goal
 
 abbrev pub invariant-loop-i : goal.invariant-loop-i
-invariant-loop-i l = (l.i ≤ l.count) × (files_ascend (drop l.i (rows_in 2 l.count l.area)) ≡ files_ascend (rows_in 2 l.count l.area))
-
-abbrev pub decreases-loop-i : goal.decreases-loop-i
-decreases-loop-i l = l.count - l.i
+invariant-loop-i l = files_ascend (drop (l.i - 1) (rows_in 2 l.count l.area)) ≡ files_ascend (rows_in 2 l.count l.area)
