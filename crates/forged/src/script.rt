@@ -1,7 +1,6 @@
 // A script run line by line.
 use crate::state::{State, begin, output};
 use crate::steps::step;
-use deck::lines::line_end;
 use printing::buffer::{append_bytes, append_number};
 use scripts::areas::ALL_CELLS;
 use std::rt::Files;
@@ -22,19 +21,17 @@ fn run_lines(
     out: &mut [u8],
 ) -> usize {
     let mut s = begin();
-    let mut line: u64 = 0;
-    let mut at: usize = 0;
-    while at < script.len() {
-        line = line.wrapping_add(1);
-        let end = line_end(script, at);
-        if script.len() <= end {
-            return bad_line(out, s, line);
-        }
-        let Some(next) = step(rt, script, at, end, cells, deck, out, s) else {
-            return bad_line(out, s, line);
+    let mut number: u64 = 0;
+    for text in script.split_inclusive(|byte| *byte == b'\n') {
+        number = number.wrapping_add(1);
+        let next = match text.strip_suffix(b"\n") {
+            Some(line) => step(rt, line, cells, deck, out, s),
+            None => None,
         };
-        s = next;
-        at = end + 1;
+        match next {
+            Some(next) => s = next,
+            None => return bad_line(out, s, number),
+        }
     }
     s.count
 }

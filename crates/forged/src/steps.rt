@@ -11,7 +11,6 @@
 //   keep  back  kept: the tables are copied, are the copy again, are compared with it
 //   same: they are compared with what they were before the last deck or call
 // Any other line ends the script.
-ghost use Rattle.std.specs.Prelude.{◌≤◌, length};
 ghost use Rattle.deck.specs.Answers.{Placed};
 
 use crate::lent::{append_word, run_call};
@@ -141,33 +140,28 @@ fn passed_over(line: &[u8]) -> bool {
     matches!(line, [] | [b'#', ..])
 }
 
-// What the line between two places says, which has these fields.
-fn read_line(script: &[u8], start: usize, end: usize, f: Fields) -> Option<Step<'_>>
-    requires start_le_end { (start ≤ end) × (end ≤ length script.now) }
-    requires placed { Placed script.now f }
+// What the line says, which has these fields.
+fn read_line(line: &[u8], f: Fields) -> Option<Step<'_>>
+    requires { Placed line.now f }
 {
-    match read_step(script, f) {
+    match read_step(line, f) {
         Some(step) => Some(step),
-        None => Some(Step::Call(of_request(read_request(script, start, end)?)?)),
+        None => Some(Step::Call(of_request(read_request(line, 0, line.len())?)?)),
     }
 }
 
-// The line between two places; none where it is no step.
+// Makes the step of a line; none where it is no step.
 pub fn step(
     rt: &impl Files,
-    script: &[u8],
-    start: usize,
-    end: usize,
+    line: &[u8],
     cells: &mut [u64; ALL_CELLS],
     deck: &mut [u8],
     out: &mut [u8],
     s: State,
-) -> Option<State>
-    requires { (start ≤ end) × (end ≤ length script.now) }
-{
-    if passed_over(&script[start..end]) {
+) -> Option<State> {
+    if passed_over(line) {
         return Some(s);
     }
-    let f = split(script, start, end);
-    make_step(rt, cells, deck, out, s, read_line(script, start, end, f)?)
+    let f = split(line, 0, line.len());
+    make_step(rt, cells, deck, out, s, read_line(line, f)?)
 }

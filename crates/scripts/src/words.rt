@@ -1,137 +1,83 @@
-// What a run can still show of functions that are held to equations: machine words, floats and bytes as compiled.
-use std::io;
+// What a run can still show of functions that are held to equations: machine words, floats and bytes as compiled. A truth is printed as 1 or 0.
+use std::cmp::Ordering;
+use std::{fmt, io};
 use tables::file_set::FileSet;
 use tables::limits::FILE_LIMIT;
 use tables::numbers::FileNumber;
 use tables::path::Path;
 use tables::text;
-use tables::text::{Place, Text};
-
-// ---- what is printed: words, and numbers each behind a space
-
-fn word(rt: &impl Print, s: &[u8]) -> io::Result<()> {
-    rt.write_all(s)
-}
-
-fn number(rt: &impl Print, n: u64) -> io::Result<()> {
-    word(rt, b" ")?;
-    rt.print(n)
-}
-
-fn truth(rt: &impl Print, b: bool) -> io::Result<()> {
-    if b { word(rt, b" 1") } else { word(rt, b" 0") }
-}
-
-fn end(rt: &impl Print) -> io::Result<()> {
-    word(rt, b"\n")
-}
+use tables::text::{Place, StoredText, Text};
 
 // ---- file sets, at the first and the last file and past it
 
 const LAST: u64 = FILE_LIMIT - 1;
 
-fn show_set(rt: &impl Print, s: FileSet) -> io::Result<()> {
-    number(rt, s.bits())
+fn holds(s: FileSet, file: u64) -> u8 {
+    s.holds(FileNumber(file)) as u8
 }
 
-fn holds(rt: &impl Print, s: FileSet) -> io::Result<()> {
-    word(rt, b"holds")?;
-    truth(rt, s.holds(FileNumber(LAST)))?;
-    truth(rt, s.holds(FileNumber(0)))?;
-    truth(rt, s.holds(FileNumber(5)))?;
-    truth(rt, s.holds(FileNumber(FILE_LIMIT)))?;
-    end(rt)
+fn without(s: FileSet, file: u64) -> u64 {
+    s.without(FileNumber(file)).bits()
 }
 
-fn with(rt: &impl Print, s: FileSet) -> io::Result<()> {
-    word(rt, b"with")?;
-    show_set(rt, s.with(FileNumber(5)))?;
-    show_set(rt, s.with(FileNumber(LAST)))?;
-    end(rt)
-}
-
-fn without(rt: &impl Print, s: FileSet) -> io::Result<()> {
-    word(rt, b"without")?;
-    show_set(rt, s.without(FileNumber(LAST)))?;
-    show_set(rt, s.without(FileNumber(0)))?;
-    show_set(rt, s.without(FileNumber(5)))?;
-    show_set(rt, s.without(FileNumber(200)))?;
-    end(rt)
-}
-
-fn others(rt: &impl Print, s: FileSet) -> io::Result<()> {
-    word(rt, b"empty")?;
-    truth(rt, FileSet::none().is_empty())?;
-    truth(rt, s.is_empty())?;
-    end(rt)?;
-    word(rt, b"part of")?;
-    truth(rt, FileSet::from_bits(1).part_of(s))?;
-    truth(rt, FileSet::from_bits(3).part_of(s))?;
-    truth(rt, FileSet::none().part_of(s))?;
-    truth(rt, s.part_of(FileSet::from_bits(1)))?;
-    end(rt)
+fn part_of(s: FileSet, o: FileSet) -> u8 {
+    s.part_of(o) as u8
 }
 
 fn file_sets(rt: &impl Print) -> io::Result<()> {
     let s = FileSet::from_bits(0x8000_0000_0000_0001);
-    holds(rt, s)?;
-    with(rt, s)?;
-    without(rt, s)?;
-    others(rt, s)
+    let none = FileSet::none();
+    let one = FileSet::from_bits(1);
+    let two = FileSet::from_bits(3);
+    println!(rt;
+        "holds {} {} {} {}",
+        holds(s, LAST),
+        holds(s, 0),
+        holds(s, 5),
+        holds(s, FILE_LIMIT)
+    )?;
+    let with_five = s.with(FileNumber(5));
+    let with_last = s.with(FileNumber(LAST));
+    println!(rt; "with {} {}", with_five.bits(), with_last.bits())?;
+    println!(rt;
+        "without {} {} {} {}",
+        without(s, LAST),
+        without(s, 0),
+        without(s, 5),
+        without(s, 200)
+    )?;
+    println!(rt; "empty {} {}", none.is_empty() as u8, s.is_empty() as u8)?;
+    println!(rt;
+        "part of {} {} {} {}",
+        part_of(one, s),
+        part_of(two, s),
+        part_of(none, s),
+        part_of(s, one)
+    )
 }
 
 // ---- paths: 1.2.3, 1.2, 1.2.4.0 and the empty one, each part held as part + 1
 
-fn show_order(rt: &impl Print, o: Ordering) -> io::Result<()> {
-    match o {
-        Ordering::Less => word(rt, b" less"),
-        Ordering::Equal => word(rt, b" equal"),
-        Ordering::Greater => word(rt, b" greater"),
+fn order(p: Path, q: Path) -> &'static str {
+    match p.order(q) {
+        Ordering::Less => "less",
+        Ordering::Equal => "equal",
+        Ordering::Greater => "greater",
     }
 }
 
-fn show_path(rt: &impl Print, p: Path) -> io::Result<()> {
-    word(rt, b" path")?;
-    number(rt, p.0)?;
-    number(rt, p.1)?;
-    number(rt, p.2)?;
-    number(rt, p.3)
+#[derive(Clone, Copy)]
+struct PathShown(Path);
+
+impl fmt::Display for PathShown {
+    fn fmt<W: fmt::Write>(&self, f: &mut fmt::Formatter<W>) -> fmt::Result {
+        let p = self.0;
+        write!(f, "path {} {} {} {}", p.0, p.1, p.2, p.3)
+    }
 }
 
-fn parts(rt: &impl Print, r: Path) -> io::Result<()> {
-    word(rt, b"parts")?;
-    number(rt, r.part(0))?;
-    number(rt, r.part(1))?;
-    number(rt, r.part(2))?;
-    number(rt, r.part(3))?;
-    number(rt, r.part(4))?;
-    end(rt)
-}
-
-fn orders(rt: &impl Print, p: Path, q: Path, r: Path, e: Path) -> io::Result<()> {
-    word(rt, b"order")?;
-    show_order(rt, p.order(q))?;
-    show_order(rt, q.order(p))?;
-    show_order(rt, p.order(p))?;
-    show_order(rt, p.order(r))?;
-    show_order(rt, e.order(p))?;
-    end(rt)
-}
-
-fn same_paths(rt: &impl Print, p: Path, r: Path) -> io::Result<()> {
-    word(rt, b"same")?;
-    truth(rt, p.same(p))?;
-    truth(rt, p.same(r))?;
-    end(rt)
-}
-
-fn shared(rt: &impl Print, p: Path, q: Path, r: Path, e: Path) -> io::Result<()> {
-    word(rt, b"shared")?;
-    show_path(rt, p.shared(r))?;
-    show_path(rt, p.shared(q))?;
-    show_path(rt, r.shared(r))?;
-    show_path(rt, e.shared(r))?;
-    end(rt)
+fn shared(p: Path, q: Path) -> PathShown {
+    PathShown(p.shared(q))
 }
 
 fn paths(rt: &impl Print) -> io::Result<()> {
@@ -139,62 +85,73 @@ fn paths(rt: &impl Print) -> io::Result<()> {
     let q = Path(2, 3, 0, 0);
     let r = Path(2, 3, 5, 1);
     let e = Path(0, 0, 0, 0);
-    parts(rt, r)?;
-    orders(rt, p, q, r, e)?;
-    same_paths(rt, p, r)?;
-    shared(rt, p, q, r, e)
+    println!(rt;
+        "parts {} {} {} {} {}",
+        r.part(0),
+        r.part(1),
+        r.part(2),
+        r.part(3),
+        r.part(4)
+    )?;
+    println!(rt;
+        "order {} {} {} {} {}",
+        order(p, q),
+        order(q, p),
+        order(p, p),
+        order(p, r),
+        order(e, p)
+    )?;
+    println!(rt; "same {} {}", p.same(p) as u8, p.same(r) as u8)?;
+    println!(rt;
+        "shared {} {} {} {}",
+        shared(p, r),
+        shared(p, q),
+        shared(r, r),
+        shared(e, r)
+    )
 }
 
 // ---- texts: as a table holds them, and when two are equal
 
-fn show_text(rt: &impl Print, t: Text) -> io::Result<()> {
-    match t {
-        Text::Number(n) => {
-            word(rt, b" number")?;
-            number(rt, n)
-        }
-        Text::Str(p) => {
-            let a = p.start;
-            let n = p.size;
-            word(rt, b" string")?;
-            number(rt, a as u64)?;
-            number(rt, n as u64)
-        }
-        Text::Whole(n) => {
-            word(rt, b" whole")?;
-            number(rt, n)
-        }
-        Text::Float(x) => {
-            word(rt, b" float")?;
-            truth(rt, text::same_float(x, 1.5))
+#[derive(Clone, Copy)]
+struct TextShown(Text);
+
+impl fmt::Display for TextShown {
+    fn fmt<W: fmt::Write>(&self, f: &mut fmt::Formatter<W>) -> fmt::Result {
+        match self.0 {
+            Text::Number(n) => write!(f, "number {n}"),
+            Text::Str(p) => write!(f, "string {} {}", p.start, p.size),
+            Text::Whole(n) => write!(f, "whole {n}"),
+            Text::Float(x) => write!(f, "float {}", text::same_float(x, 1.5) as u8),
         }
     }
 }
 
-fn texts(rt: &impl Print) -> io::Result<()> {
-    word(rt, b"texts")?;
-    show_text(rt, text::text_of(0, 7))?;
-    show_text(rt, text::text_of(1, 196610))?;
-    show_text(rt, text::text_of(2, 18446744073709551615))?;
-    show_text(rt, text::text_of(3, 0x3ff8_0000_0000_0000))?;
-    end(rt)
+fn of_cells(kind: u64, value: u64) -> TextShown {
+    TextShown(text::text_of(StoredText::from_cells(kind, value)))
 }
 
-fn floats(rt: &impl Print, a: u64, b: u64) -> io::Result<()> {
-    truth(rt, text::same_float(text::float_of(a), text::float_of(b)))?;
-    truth(
-        rt,
-        text::same_text(
-            Text::Float(text::float_of(a)),
-            Text::Float(text::float_of(b)),
-            b"",
-        ),
+fn texts(rt: &impl Print) -> io::Result<()> {
+    println!(rt;
+        "texts {} {} {} {}",
+        of_cells(0, 7),
+        of_cells(1, 196610),
+        of_cells(2, 18446744073709551615),
+        of_cells(3, 0x3ff8_0000_0000_0000)
     )
+}
+
+// Whether the two are equal as floats and as texts.
+fn floats(rt: &impl Print, a: u64, b: u64) -> io::Result<()> {
+    let x = text::float_of(a);
+    let y = text::float_of(b);
+    let same = text::same_text(Text::Float(x), Text::Float(y), b"");
+    print!(rt; " {} {}", text::same_float(x, y) as u8, same as u8)
 }
 
 // Two NaNs, both zeros, both infinities, a NaN and zero, one and two, the smallest number and zero, and itself.
 fn all_floats(rt: &impl Print) -> io::Result<()> {
-    word(rt, b"same float")?;
+    print!(rt; "same float")?;
     floats(rt, 0x7ff8_0000_0000_0001, 0xfff0_0000_0000_0002)?;
     floats(rt, 0, 0x8000_0000_0000_0000)?;
     floats(rt, 0x7ff0_0000_0000_0000, 0xfff0_0000_0000_0000)?;
@@ -202,45 +159,43 @@ fn all_floats(rt: &impl Print) -> io::Result<()> {
     floats(rt, 0x3ff0_0000_0000_0000, 0x4000_0000_0000_0000)?;
     floats(rt, 1, 0)?;
     floats(rt, 1, 1)?;
-    end(rt)
+    println!(rt; "")
 }
 
-fn strings(rt: &impl Print, deck: &[u8], a: usize, m: usize, b: usize, n: usize) -> io::Result<()> {
+// Whether the strings at two places of the deck are equal as strings and as texts.
+fn strings(rt: &impl Print, deck: &[u8], p: Place, q: Place) -> io::Result<()> {
     let size = deck.len();
-    if size < a {
+    if size < p.start || size - p.start < p.size || size < q.start || size - q.start < q.size {
         return Ok(());
     }
-    if size - a < m {
-        return Ok(());
-    }
-    if size < b {
-        return Ok(());
-    }
-    if size - b < n {
-        return Ok(());
-    }
-    let p = Place { start: a, size: m };
-    let q = Place { start: b, size: n };
-    truth(rt, text::same_string(p, q, deck))?;
-    truth(rt, text::same_text(Text::Str(p), Text::Str(q), deck))
+    let same = text::same_text(Text::Str(p), Text::Str(q), deck);
+    print!(rt; " {} {}", text::same_string(p, q, deck) as u8, same as u8)
 }
 
 fn all_strings(rt: &impl Print, deck: &[u8]) -> io::Result<()> {
-    word(rt, b"same string")?;
-    strings(rt, deck, 0, 3, 3, 3)?;
-    strings(rt, deck, 0, 3, 6, 3)?;
-    strings(rt, deck, 0, 3, 3, 2)?;
-    strings(rt, deck, 9, 0, 0, 0)?;
-    end(rt)
+    let first = Place { start: 0, size: 3 };
+    print!(rt; "same string")?;
+    strings(rt, deck, first, Place { start: 3, size: 3 })?;
+    strings(rt, deck, first, Place { start: 6, size: 3 })?;
+    strings(rt, deck, first, Place { start: 3, size: 2 })?;
+    strings(
+        rt,
+        deck,
+        Place { start: 9, size: 0 },
+        Place { start: 0, size: 0 },
+    )?;
+    println!(rt; "")
 }
 
 fn numbers(rt: &impl Print) -> io::Result<()> {
-    word(rt, b"same number")?;
-    truth(rt, text::same_text(Text::Number(7), Text::Number(7), b""))?;
-    truth(rt, text::same_text(Text::Number(7), Text::Number(8), b""))?;
-    truth(rt, text::same_text(Text::Whole(7), Text::Whole(7), b""))?;
-    truth(rt, text::same_text(Text::Number(7), Text::Whole(7), b""))?;
-    end(rt)
+    let numbers = text::same_text(Text::Number(7), Text::Number(7), b"");
+    let others = text::same_text(Text::Number(7), Text::Number(8), b"");
+    let wholes = text::same_text(Text::Whole(7), Text::Whole(7), b"");
+    let kinds = text::same_text(Text::Number(7), Text::Whole(7), b"");
+    println!(rt;
+        "same number {} {} {} {}",
+        numbers as u8, others as u8, wholes as u8, kinds as u8
+    )
 }
 
 fn all_texts(rt: &impl Print) -> io::Result<()> {
