@@ -121,12 +121,6 @@ module _ (schema elements w : List ℕ) (na ni f v p : ℕ) (m₀ l₀ : List �
     pub left : (deck : List ℕ) → import_new_items (fixed_in deck schema elements) f v p i (spread (import_in w) (na + i) (na + ni - (na + i))) (state_in m l)
         ≡ import_new_items (fixed_in deck schema elements) f v p 0 (spread (import_in w) na ni) (state_in m₀ l₀)
 
-  pub imports-start : ModelOver elements m₀ → LogFits (length (elements_of elements).names) l₀ → ImportsLeft m₀ l₀ 0
-  imports-start fm fl =
-      let a : na + 0 ≡ na = omega arith in
-      let b : na + ni - na ≡ ni = omega arith in
-      record { within = omega arith; model_fits = fm; log_fits = fl; keeps = λ n texts s. s; left = λ deck. rw (a, b) }
-
   module _ (m l : List ℕ) (i : ℕ) (k : ImportsLeft m l i) where
     pub imports-end : ni ≤ i → (deck : List ℕ) → done (state_in m l) ≡ import_new_items (fixed_in deck schema elements) f v p 0 (spread (import_in w) na ni) (state_in m₀ l₀)
     unfolding import_new_items

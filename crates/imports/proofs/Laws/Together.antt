@@ -1,26 +1,22 @@
 -- Rows of the B-only list that are put in together. Assumes nothing.
-use mathlib.Core.Bool.{Bool, true}
 use mathlib.Core.List.{List}
-use mathlib.Core.Logic.{◌⊎◌, inl, inr}
 use mathlib.Core.Path.{◌≡◌, refl, sym, ap, ◌∙◌}
 use Prim.Native.Nat.{ℕ, suc, ◌+◌, ◌-◌, ◌≤◌, ◌<◌, zero-le}
 use native.Mathlib.Omega.{arith}
 use lib.ListN.{length}
 use Rattle.tables.specs.ElementsTable.{elements_of}
-use Rattle.tables.specs.Limits.{item_limit}
 use Rattle.tables.specs.LogTable.{log_of}
 use Rattle.tables.specs.ModelTable.{count_of, model_of, GoodModel, HoldsModel}
-use Rattle.tables.specs.Records.{Element, child, Model, list_of, insert_items, remove_items, content_items}
+use Rattle.tables.specs.Records.{Element, child, Model, list_of, insert_items, remove_items}
 use Rattle.tables.proofs.Laws.Model.{length-list-insert_items, remove-insert_items}
 use Rattle.table_test.specs.Fits.{ModelOver, LogFits, KeepsState}
 use Rattle.table_test.proofs.Laws.Fits.{fits-insert_items}
 use Rattle.state_test.specs.StateTest.{fixed_in, state_in}
 use Rattle.merge_rules.specs.Import.{clamp, import_new_items}
 use Rattle.merge_rules.specs.Refusals.{Outcome, done, ◌>>=◌}
-use Rattle.merge_rules.proofs.Laws.Cases.{same-or-other}
-use Rattle.pairing.specs.Plans.{spread, import_in, row_element, row_value, RowsIn}
+use Rattle.pairing.specs.Plans.{spread, import_in, row_element, row_value}
 use Rattle.merge_log.specs.Answers.{outcome_is}
-use Rattle.imports.specs.Imports.{state_without, ImportsInto, row_place, FollowOn, RunOf, RowsTogether}
+use Rattle.imports.specs.Imports.{state_without, ImportsInto, row_place, FollowOn}
 use Rattle.merge_log.specs.Runs.{RunIn}
 use Rattle.merge_log.specs.declared.log.Run.{Run}
 use Rattle.std.specs.Prelude.{Result, Ok}
@@ -136,50 +132,7 @@ module _ (r : Run) (m l m₁ : List ℕ) (h : HoldsModel m₁ (insert_items (mod
 
 -- ---- how many rows
 
-module _ (w : List ℕ) (na ni i n room : ℕ) where
-  pub run-one : i < ni → RunOf w na ni i n room 1
-  run-one h =
-      record {
-        some = omega arith;
-        within = omega arith;
-        fits = λ k. absurd (omega arith);
-        follow = λ j k. let z : j ≡ 0 = omega arith in let a : i + 0 ≡ i = omega arith in let b : n + 0 ≡ n = omega arith in rw (z, a, b) (omega arith);
-      }
-
-  pub run-longer : (k : ℕ) → RunOf w na ni i n room k → i + k < ni → k < room → row_place w na (i + k) (n + k) ≡ row_place w na i n + k → RunOf w na ni i n room (k + 1)
-  run-longer k r h l e =
-      record {
-        some = omega arith;
-        within = omega arith;
-        fits = λ _. omega arith;
-        follow = λ j g. here j g (same-or-other j k);
-      }
-    where
-      here : (j : ℕ) → j < k + 1 → (j ≡ k) ⊎ (j ≡ k → ⊥) → row_place w na (i + j) (n + j) ≡ row_place w na i n + j
-      here j g (inl z) = rw z e
-      here j g (inr z) = r.follow j (omega (arith, z))
-
 -- the place of a row is one of the list
 pub row_within : (w : List ℕ) (na i n : ℕ) → row_place w na i n ≤ n
 unfolding clamp
 row_within w na i n = omega arith
-
-module _ (m w : List ℕ) (na ni i : ℕ) (p : Element) (any : Bool) where
-  pub one-alone : i < ni → RowsTogether m w na ni i p any 1
-  one-alone h = record { some = omega arith; within = omega arith; many = λ k. absurd (omega arith) }
-
-  pub some-together : (n room k : ℕ) → any ≡ true → n ≡ length (list_of (model_of m) p) → room + content_items (model_of m) ≡ item_limit → RunOf w na ni i n room k
-      → RowsTogether m w na ni i p any k
-  some-together n room k t e f r =
-      record { some = r.some; within = r.within; many = λ h. (t, record { room = omega (arith, r.fits h); follow = rw e at r.follow }) }
-
--- rows of a longer list
-pub rows-fewer : (n : ℕ) (w : List ℕ) (na ni k : ℕ) → RowsIn n w na ni → k ≤ ni → RowsIn n w na k
-rows-fewer n w na ni k r h =
-    record {
-      room = omega (arith, r.room);
-      few = omega (arith, r.few);
-      element = λ i l. r.element i (omega arith);
-      mate = r.mate;
-      place = λ i l. r.place i (omega arith);
-    }

@@ -91,17 +91,6 @@ move-back m o k first index mult hm ho hk = rw (hm, ho, hk, mode-back m, order-b
 
 -- ---- one item, by how the elements of its name stand to the new one
 
-module _ (mult : program_mult.Mult) (index : ℕ) (b : Bounds) (x : Option Against) {a : Item} where
-  pub child-missing : {e : ℕ} → a ≡ child e → x ≡ None → move b.first b.last ≡ move_of a x mult index b
-  child-missing h k = rw (h, k)
-
-  pub child-row : {e : ℕ} {y : Against} → a ≡ child e → x ≡ Some y → (r : step.Move)
-      → move_is r ≡ move_by (mode_from y.mode) (ordering_is y.order) (mult_is mult) b.first index → move_is r ≡ move_of a x mult index b
-  child-row h k r g = rw (h, k) g
-
-  pub text-last : {t : ℕ} → a ≡ text t → move b.first (index + 1) ≡ move_of a x mult index b
-  text-last h = rw h
-
 module _ (schema : List ℕ) (t new n : ℕ) where
   pub compares-none : row_of_name (schema_of schema) t n ≡ none → Compares schema t new n None
   unfolding move_at

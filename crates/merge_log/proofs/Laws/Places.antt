@@ -4,7 +4,7 @@ use mathlib.Core.List.{List, ◌∷◌}
 use mathlib.Core.Option.{Option, none, some}
 use mathlib.Core.Path.{◌≡◌, refl, sym, ap, ◌∙◌}
 use Prim.Native.Nat.{ℕ, suc, ◌+◌, ◌-◌, ◌≤◌, ◌<◌}
-use native.Mathlib.Nat.{add-zero, zero-add}
+use native.Mathlib.Nat.{add-zero}
 use native.Mathlib.Numerals.{add-one}
 use native.Mathlib.Omega.{arith}
 use lib.ListN.{length, get_or, drop, drop_of_length-le}
@@ -47,13 +47,6 @@ module _ (e : Element) (l : List Item) where
   abbrev pub Searching : ℕ → Type 0
   Searching i = behind i (first_place_of e (drop i l)) ≡ first_place_of e l
 
-  pub search-start : Searching 0
-  search-start = by (first_place_of e l)
-    where
-      by : (o : Option ℕ) → behind 0 o ≡ o
-      by none = refl
-      by (some k) = ap {B = Option ℕ} some (zero-add k)
-
   pub search-more : (i : ℕ) (a : Item) → i < length l → a ≡ get_or l i (child 0) → is_child e a ≡ false → Searching i → Searching (i + 1)
   search-more i a h s n inv =
       let d : drop i l ≡ a ∷ drop (i + 1) l = rw (add-one i, s) (drop-cons l i (child 0) h) in
@@ -86,11 +79,6 @@ module _ (e : Element) (l : List Item) where
   back_found i a o h s n once =
       let low : i - 1 < length l = omega arith in
       record { is = sym (once-first e l (i - 1) once low (rw s at n)); within = low }
-
-  pub back_end : (i : ℕ) → i ≤ 0 → NoneFrom i → FirstPlace e l None
-  back_end i h none-behind =
-      let z : i ≡ 0 = omega arith in
-      record { is = sym (rw z at none-behind); within = tt }
 
 pub place-within : (e : Element) (l : List Item) (i : ℕ) (r : program_option.Option ℕ) → FirstPlace e l r → r ≡ Some i → i < length l
 place-within e l i r f m = rw m at f.within

@@ -2,7 +2,7 @@
 use mathlib.Core.Bool.{Bool}
 use mathlib.Core.List.{List, [], ◌∷◌}
 use mathlib.Core.Option.{Option}
-use mathlib.Core.Path.{◌≡◌, refl, sym, ap, ◌∙◌, subst}
+use mathlib.Core.Path.{◌≡◌, refl, ap, ◌∙◌}
 use Prim.Native.Nat.{ℕ, suc, ◌-◌, ◌≤◌, ◌<◌}
 use native.Mathlib.Omega.{arith}
 use borrow.Author.Tests.{le-leb, lt-leb}
@@ -10,10 +10,9 @@ use lib.ListN.{length, drop, length-drop}
 use Rattle.tables.specs.Cells.{Each}
 use Rattle.tables.specs.FileSets.{without_file}
 use Rattle.tables.specs.Limits.{item_limit}
-use Rattle.tables.specs.LogTable.{log_of, GoodLog, HoldsLog, no_entry, entry_at}
+use Rattle.tables.specs.LogTable.{log_of, GoodLog, HoldsLog, entry_at}
 use Rattle.tables.specs.ModelTable.{count_of, model_of, ParentBelow, GoodModel, HoldsModel}
 use Rattle.tables.specs.Records.{Element, FileNumber, FileSet, Model, Entry, import, restriction, extension, Log, set_of, put_parent, put_set, put_list, remove_items}
-use Rattle.tables.proofs.Laws.Cells.{each-get_d}
 use Rattle.tables.proofs.Laws.Model.{count-put_parent}
 use Rattle.table_test.specs.LogTest.{EntryIn}
 use Rattle.table_test.specs.ModelTest.{model_once}
@@ -113,12 +112,6 @@ module _ (mark : ℕ) (o : Bool) (m₀ l₀ : List ℕ) where
         once = once;
         left = ap (undo_to mark (log_of l₀)) (none-leave (model_of m₀) r k);
       }
-
-  -- the newest entry is in range
-  pub newest-in : (m l : List ℕ) (r : Run) (n k : ℕ) (a : Entry) → RollingBack mark o m₀ l₀ m l r n → k < n → a ≡ entry_at (log_of l) k → EntryIn (count_of (model_of m)) a
-  newest-in m l r n k a b h e =
-      subst (EntryIn (count_of (model_of m))) (sym e)
-      (each-get_d (EntryIn (count_of (model_of m))) (log_of l) (length (log_of l) - suc k) no_entry b.entries (omega (arith, b.count)))
 
   pub rolling-turn : (m l m' l' : List ℕ) (r q : Run) (n k : ℕ) (a : Entry) → RollingBack mark o m₀ l₀ m l r n → mark < n → k ≡ n - 1 → a ≡ entry_at (log_of l) k
       → HoldsLog l' (drop 1 (log_of l)) → Leads (undo a) o r q m m' → RollingBack mark o m₀ l₀ m' l' q k

@@ -1,25 +1,18 @@
-use native.Mathlib.Omega.{arith}
-use Rattle.tables.specs.Limits.{element_limit}
-use Rattle.tables.specs.ModelTable.{parent_is, count_of, model_of}
+use Rattle.tables.specs.ModelTable.{parent_is}
 use Rattle.tables.specs.SetCells.{set_is}
-use Rattle.tables.proofs.Laws.ModelTable.{parent-below, parent-weaker}
+use Rattle.tables.proofs.Laws.ModelTable.{parent-below}
 use Rattle.imports.proofs.Laws.Entering.{parent-asks, set-asks, enters}
 use Rattle.imports.proofs.import.enter.Goals as goal
-
-pub push_entry-requires : goal.push_entry-requires
-push_entry-requires c =
-    let m = c.args.model.now in
-    let below = rw (← c.parent_of-parent.ensures) at (parent-below m c.requires.good_model c.args.e.0 c.requires.e_bound) in record { good_log = c.requires.good_log; log_len_bound = c.requires.log_len_bound; entry_fits = (omega (arith, c.requires.e_bound, c.requires.good_model.sized.count), omega (arith, c.requires.p_bound, c.requires.good_model.sized.count), parent-weaker (count_of (model_of m)) element_limit (parent_is c.parent_of-parent.result) c.requires.good_model.sized.count below) }
 
 pub set_parent-requires : goal.set_parent-requires
 set_parent-requires c =
     let r = parent-asks c.args.model.now c.args.log.now c.args.f.0 c.args.p.0 c.args.e.0 c.args.at c.put_item.new.model c.put_item.ensures c.requires.p_bound c.requires.e_bound in record { good_model = r.0; e_bound = r.1; parent_below = r.2 }
 
-pub set_set-requires : goal.set_set-requires
-set_set-requires c =
+pub set_set-requires-clause-e_bound : goal.set_set-requires-clause-e_bound
+set_set-requires-clause-e_bound c =
     let r = set-asks c.args.model.now c.args.log.now c.args.f.0 c.args.p.0 c.args.e.0 c.args.at c.put_item.new.model c.put_item.ensures c.set_parent.new.model
     c.set_parent.ensures c.requires.e_bound in
-    record { good_model = r.0; e_bound = r.1 }
+    r.1
 
 pub returns : goal.returns
 returns c =

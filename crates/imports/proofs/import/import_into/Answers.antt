@@ -1,4 +1,3 @@
-use native.Mathlib.Omega.{arith}
 use Rattle.schema_calls.proofs.Laws.Scans.{found-at, found-missing}
 use Rattle.imports.proofs.Laws.Entering.{into-no-row, into-log-full, into-done}
 use borrow.Author.Rules.{rules}
@@ -12,9 +11,6 @@ pub returns-then-entries-ge-LOG_LIMIT : goal.returns-then-entries-ge-LOG_LIMIT
 returns-then-entries-ge-LOG_LIMIT c =
     into-log-full c.args.schema.now c.args.elements.now c.args.f.0 c.args.v c.args.r c.args.e.0 c.element_type-t.result.0 c.element_name-n.result c.args.model.now c.args.log.now c.requires.v_lt_version_limit c.element_name-n.ensures c.element_type-t.ensures (found-at c.find_sub_element.ensures c.in-Some.is)
     c.requires.any_place c.requires.model_over.good (rw c.requires.model_over.same c.requires.p_in_bounds) c.requires.run_in (search rules)
-
-pub enter-requires : goal.enter-requires
-enter-requires c = record { good_model = c.requires.model_over.good; good_log = c.requires.good_log; log_len_bound = search rules; p_bound = rw c.requires.model_over.same c.requires.p_in_bounds; e_bound = rw c.requires.model_over.same c.requires.e_in_bounds; at_in_bounds = omega (arith, c.requires.run_in, c.requires.k_nonzero); f_lt_file_limit = c.requires.f_lt_file_limit }
 
 pub returns : goal.returns
 returns c =

@@ -4,31 +4,24 @@ use Rattle.tables.specs.Records.{State}
 use Rattle.merge_rules.specs.Import.{import_new_items}
 use Rattle.pairing.specs.Plans.{spread, import_in}
 use Rattle.state_test.specs.StateTest.{fixed_in}
-use Prim.Native.Nat.{◌+◌, ◌*◌}
+use Prim.Native.Nat.{◌+◌}
 use native.Mathlib.Omega.{arith}
 use Rattle.imports.proofs.Laws.Together.{run-start, run_in, run_end, run-stop, run_more, made_in, made-follow, made-state, made-keeps}
 use borrow.Author.Rules.{rules}
 use Rattle.imports.proofs.Laws.Imports.{not-done}
 use Rattle.imports.proofs.import.import_run.Goals as goal
 
-pub insert_items-requires : goal.insert_items-requires
-insert_items-requires c = record { good_model = c.requires.model_over.good; e_bound = rw c.requires.model_over.same c.requires.p_in_bounds; i_in_bounds = c.requires.i_in_bounds; k_bound = c.requires.k_bound; item_below = rw c.requires.model_over.same c.requires.p_in_bounds }
-
 pub loop-j-init : goal.loop-j-init
 loop-j-init c =
     run-start c.args.schema.now c.args.elements.now c.args.work.now c.args.na c.args.i c.args.f.0 c.args.v c.args.r c.insert_items.new.model c.args.log.now (made-keeps c.args.r c.args.model.now c.args.log.now c.insert_items.new.model c.insert_items.ensures c.requires.model_over.good (rw c.requires.model_over.same c.requires.p_in_bounds) c.requires.i_in_bounds _ _ (record { model_fits = c.requires.model_over; log_fits = c.requires.log_fits })).model_fits c.requires.log_fits
-
-pub overflow_cast-e : goal.overflow_cast-e
-overflow_cast-e c =
-    omega (arith, c.shared_slice_known-in-loop-j-1.given (2 * (c.args.na + c.args.i + c.loop-j.j)))
 
 pub overflow_add-left : goal.overflow_add-left
 overflow_add-left c =
     record { fits = omega (arith, start-room c.args.model.now c.requires.model_over.good c.args.r.p.0 (rw c.requires.model_over.same c.requires.p_in_bounds), c.requires.k_bound, c.requires.i_in_bounds, c.loop-j-test.true) }
 
-pub import_into-requires : goal.import_into-requires
-import_into-requires c =
-    let h = c.loop-j-test.true in record { good_schema = c.requires.good_schema; good_elements = c.requires.good_elements; each = c.requires.each; model_over = c.loop-j.invariant.model_fits; good_log = c.loop-j.invariant.log_fits.good; f_lt_file_limit = c.requires.f_lt_file_limit; v_lt_version_limit = c.requires.v_lt_version_limit; any_place = c.requires.any_place; run_in = run_in c.args.schema.now c.args.elements.now c.args.work.now c.args.na c.args.i c.args.f.0 c.args.v c.args.r c.insert_items.new.model c.args.log.now c.loop-j.model c.loop-j.log c.loop-j.j c.loop-j.invariant (made_in c.args.r c.args.model.now c.args.log.now c.insert_items.new.model c.insert_items.ensures c.requires.model_over.good (rw c.requires.model_over.same c.requires.p_in_bounds) c.requires.i_in_bounds) _ refl refl refl; k_nonzero = omega (arith, h); p_in_bounds = c.requires.p_in_bounds; e_in_bounds = c.requires.rows_in.element (c.args.na + c.args.i + c.loop-j.j) (omega (arith, h)) }
+pub import_into-requires-clause-run_in : goal.import_into-requires-clause-run_in
+import_into-requires-clause-run_in c =
+    run_in c.args.schema.now c.args.elements.now c.args.work.now c.args.na c.args.i c.args.f.0 c.args.v c.args.r c.insert_items.new.model c.args.log.now c.loop-j.model c.loop-j.log c.loop-j.j c.loop-j.invariant (made_in c.args.r c.args.model.now c.args.log.now c.insert_items.new.model c.insert_items.ensures c.requires.model_over.good (rw c.requires.model_over.same c.requires.p_in_bounds) c.requires.i_in_bounds) _ refl refl refl
 
 pub loop-j-preserved : goal.loop-j-preserved
 loop-j-preserved c =

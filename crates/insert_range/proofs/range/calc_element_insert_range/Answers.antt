@@ -1,11 +1,10 @@
 use Rattle.std.proofs.Common.{arith}
 use Rattle.tables.specs.ModelTable.{model_of}
-use Rattle.schema_calls.proofs.Laws.Scans.{found-at, found_within, found-missing}
+use Rattle.schema_calls.proofs.Laws.Scans.{found-at, found-missing}
 use Rattle.state_test.specs.StateTest.{fixed_in}
 use Rattle.std.specs.Prelude.{Ok, Err}
 use Rattle.insert_range.specs.declared.range.Unplaced.TheVariants.{NoRow}
 use Rattle.insert_range.proofs.Laws.Range.{calc-none, calc-read, calc-all, calc-characters, ranges}
-use Rattle.table_test.proofs.Laws.Tested.{type-in}
 use Rattle.insert_range.proofs.range.calc_element_insert_range.Goals as goal
 
 pub returns-in_default : goal.returns-in_default
@@ -14,26 +13,6 @@ returns-in_default c =
     ranges a.schema.now a.elements.now a.model.now a.p.0 a.n.0 a.v (Err NoRow)
     (λ deck. calc-none (fixed_in deck a.schema.now a.elements.now) (model_of a.model.now) a.p.0 a.n.0 a.v c.requires.v_lt_version_limit
     c.element_type-t.ensures (found-missing c.find_sub_element.ensures c.in_default.is))
-
-pub type_mode-mode-requires : goal.type_mode-mode-requires
-type_mode-mode-requires c =
-    let r = c.requires in
-    record {
-      good_schema = r.good_schema;
-      t_in_bounds = rw c.element_type-t.ensures (type-in c.args.elements.now _ c.args.p.0 r.good_elements r.each r.p_in_bounds);
-    }
-
-pub read_content-requires : goal.read_content-requires
-read_content-requires c =
-    let r = c.requires in
-    record {
-      good_schema = r.good_schema;
-      good_elements = r.good_elements;
-      each = r.each;
-      model_over = r.model_over;
-      p_in_bounds = r.p_in_bounds;
-      in_bounds = found_within c.find_sub_element.ensures c.in-Some.is;
-    }
 
 pub returns-in-0 : goal.returns-in-0
 returns-in-0 c =

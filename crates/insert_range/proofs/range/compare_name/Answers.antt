@@ -1,13 +1,10 @@
-use Rattle.schema_calls.proofs.Laws.Scans.{found-at, found_within, found-missing}
+use Rattle.schema_calls.proofs.Laws.Scans.{found-at, found-missing}
 use Rattle.insert_range.proofs.Laws.Range.{compares-none, compares-row}
 use Rattle.insert_range.proofs.range.compare_name.Goals as goal
 
 pub returns-in_default : goal.returns-in_default
 returns-in_default c =
     compares-none c.args.schema.now c.args.t.0 c.args.new c.args.n.0 (found-missing c.row_of_name.ensures c.in_default.is)
-
-pub row_path-other-requires : goal.row_path-other-requires
-row_path-other-requires c = record { good_schema = c.requires.good_schema; i_in_bounds = found_within c.row_of_name.ensures c.in-Some.is }
 
 pub returns : goal.returns
 returns c =

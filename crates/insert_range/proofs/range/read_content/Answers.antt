@@ -12,7 +12,6 @@ use Rattle.insert_range.specs.Range.{Compares, name_or}
 use Rattle.std.specs.Prelude.{Option}
 use Rattle.insert_range.specs.declared.range.Against.{Against}
 use Rattle.insert_range.proofs.Laws.Range.{ItemRead, item-read, read-stop, read-clash, read_more, read-end, item-early, item_in}
-use Rattle.table_test.proofs.Laws.Tested.{type-in}
 use Rattle.insert_range.proofs.range.read_content.Goals as goal
 use Rattle.insert_range.proofs.range.read_content.Goals.{then-ne, else-ne, After-lend_bounds-s}
 
@@ -25,35 +24,13 @@ named : {schema elements : List ℕ} {t new last : ℕ} {a : Item} {m n : Name} 
     → n ≡ m → y ≡ x → Compares schema t new m.0 x → m.0 ≡ name_or elements last a → Named schema elements t new last a n y
 named hn hy h e = rw (hn, hy) (record { compares = h; named = e })
 
-pub compare_name-against-requires : goal.compare_name-against-requires
-compare_name-against-requires c =
-    let r = c.requires in
-    record {
-      good_schema = r.good_schema;
-      t_in_bounds = rw c.element_type-t.ensures (type-in c.args.elements.now _ c.args.p.0 r.good_elements r.each r.p_in_bounds);
-      in_bounds = r.in_bounds;
-    }
-
-pub name_or-next-requires : goal.name_or-next-requires
-name_or-next-requires c =
-    record {
-      good_elements = c.requires.good_elements;
-      item_below =
-          item_in c.args.elements.now c.args.model.now c.requires.model_over c.args.p.0 c.loop-i.i (search rules) c.item_at-a.ensures;
-    }
+pub name_or-next-requires-clause-item_below : goal.name_or-next-requires-clause-item_below
+name_or-next-requires-clause-item_below c =
+    item_in c.args.elements.now c.args.model.now c.requires.model_over c.args.p.0 c.loop-i.i (search rules) c.item_at-a.ensures
 
 pub lend_bounds-s-requires : goal.lend_bounds-s-requires
 lend_bounds-s-requires c =
     item-early c.args.elements.now c.args.model.now c.requires.model_over c.args.p.0 c.loop-i.i (search rules)
-
-pub compare_name-against-requires-then-ne : goal.compare_name-against-requires-then-ne
-compare_name-against-requires-then-ne c =
-    let r = c.requires in
-    record {
-      good_schema = r.good_schema;
-      t_in_bounds = rw c.element_type-t.ensures (type-in c.args.elements.now _ c.args.p.0 r.good_elements r.each r.p_in_bounds);
-      in_bounds = r.in_bounds;
-    }
 
 -- the name of the item, and how its elements stand to the new row
 now-named : (c : After-lend_bounds-s) → Named c.args.schema.now c.args.elements.now c.element_type-t.result.0 c.args.new c.loop-i.name.0

@@ -6,11 +6,13 @@ use native.Mathlib.Omega.{arith}
 use borrow.Author.Rules.{rules}
 use Rattle.merge_log.proofs.log.extend.Goals as goal
 
-pub returns-then-holds : goal.returns-then-holds
-returns-then-holds c = record { log_after = extend-held c.args.model.now c.args.log.now c.args.e.0 c.args.f.0 (sym c.if-holds.true ∙ (rw c.set_of-old.ensures at c.holds.ensures)); keeps_state = λ n texts f. f }
+pub returns-then-holds-clause-log_after : goal.returns-then-holds-clause-log_after
+returns-then-holds-clause-log_after c =
+    extend-held c.args.model.now c.args.log.now c.args.e.0 c.args.f.0 (sym c.if-holds.true ∙ (rw c.set_of-old.ensures at c.holds.ensures))
 
-pub returns-then-log_length-ge-LOG_LIMIT : goal.returns-then-log_length-ge-LOG_LIMIT
-returns-then-log_length-ge-LOG_LIMIT c = record { log_after = extend-full c.args.model.now c.args.log.now c.args.e.0 c.args.f.0 (sym c.if-holds.false ∙ (rw c.set_of-old.ensures at c.holds.ensures)) (search rules); keeps_state = λ n texts f. f }
+pub returns-then-log_length-ge-LOG_LIMIT-clause-log_after : goal.returns-then-log_length-ge-LOG_LIMIT-clause-log_after
+returns-then-log_length-ge-LOG_LIMIT-clause-log_after c =
+    extend-full c.args.model.now c.args.log.now c.args.e.0 c.args.f.0 (sym c.if-holds.false ∙ (rw c.set_of-old.ensures at c.holds.ensures)) (search rules)
 
 pub returns : goal.returns
 returns c =

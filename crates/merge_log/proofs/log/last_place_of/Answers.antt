@@ -1,7 +1,7 @@
 use mathlib.Core.Path.{sym, ◌∙◌}
 use Rattle.tables.specs.ModelTable.{item_is, model_of}
 use Rattle.tables.specs.Records.{list_of}
-use Rattle.merge_log.proofs.Laws.Places.{back_start, back_more, back_found, back_end}
+use Rattle.merge_log.proofs.Laws.Places.{back_start, back_more, back_found}
 use borrow.Author.Rules.{rules}
 use Rattle.merge_log.proofs.log.last_place_of.Goals as goal
 
@@ -16,7 +16,3 @@ returns-then-is_child c =
 pub loop-last-preserved : goal.loop-last-preserved
 loop-last-preserved c =
     back_more c.args.e.0 (list_of (model_of c.args.model.now) c.args.p.0) c.loop-last.last (item_is c.item_at-a.result) (search rules) (search rules) c.item_at-a.ensures (sym c.is_child.ensures ∙ c.if-is_child.false) c.loop-last.invariant
-
-pub returns : goal.returns
-returns c =
-    back_end c.args.e.0 (list_of (model_of c.args.model.now) c.args.p.0) c.loop-last.last (search rules) c.loop-last.invariant

@@ -1,13 +1,9 @@
 use mathlib.Core.Path.{sym, ◌∙◌}
 use Rattle.tables.specs.ModelTable.{item_is, model_of}
 use Rattle.tables.specs.Records.{list_of}
-use Rattle.merge_log.proofs.Laws.Places.{search-start, search-more, search-found, search-end}
+use Rattle.merge_log.proofs.Laws.Places.{search-more, search-found, search-end}
 use borrow.Author.Rules.{rules}
 use Rattle.merge_log.proofs.log.place_of.Goals as goal
-
-pub loop-i-init : goal.loop-i-init
-loop-i-init c =
-    search-start c.args.e.0 (list_of (model_of c.args.model.now) c.args.p.0)
 
 pub returns-then-is_child : goal.returns-then-is_child
 returns-then-is_child c =

@@ -5,8 +5,9 @@ use native.Mathlib.Omega.{arith}
 use borrow.Author.Rules.{rules}
 use Rattle.merge_log.proofs.log.restrict.Goals as goal
 
-pub returns-then-log_length-ge-LOG_LIMIT : goal.returns-then-log_length-ge-LOG_LIMIT
-returns-then-log_length-ge-LOG_LIMIT c = record { log_after = restrict-full c.args.model.now c.args.log.now c.args.e.0 (set_is c.args.files) (search rules); keeps_state = λ n texts f. f }
+pub returns-then-log_length-ge-LOG_LIMIT-clause-log_after : goal.returns-then-log_length-ge-LOG_LIMIT-clause-log_after
+returns-then-log_length-ge-LOG_LIMIT-clause-log_after c =
+    restrict-full c.args.model.now c.args.log.now c.args.e.0 (set_is c.args.files) (search rules)
 
 pub returns : goal.returns
 returns c =

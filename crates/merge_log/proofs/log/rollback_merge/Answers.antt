@@ -1,15 +1,12 @@
 use mathlib.Core.Path.{refl}
 use Rattle.tables.specs.LogTable.{entry_is}
-use Rattle.merge_log.proofs.Laws.Undo.{rolling-start, newest-in, rolling-turn, rolling-end, rolling-keeps}
+use Rattle.merge_log.proofs.Laws.Undo.{rolling-start, rolling-turn, rolling-end, rolling-keeps}
 use borrow.Author.Rules.{rules}
 use Rattle.merge_log.proofs.log.rollback_merge.Goals as goal
 
 pub loop-n-init : goal.loop-n-init
 loop-n-init c =
     rolling-start c.args.mark c.args.once c.args.model.now c.args.log.now _ _ c.requires.good_model c.requires.good_log c.requires.each c.log_length-n.ensures c.requires.once_if refl refl
-
-pub undo_entry-r-requires : goal.undo_entry-r-requires
-undo_entry-r-requires c = record { good_model = c.loop-n.invariant.model_good; run_in = c.loop-n.invariant.within; entry_in = newest-in c.args.mark c.args.once c.args.model.now c.args.log.now c.loop-n.model c.loop-n.log c.loop-n.r c.loop-n.n _ (entry_is c.entry_at-a.result) c.loop-n.invariant (search rules) c.entry_at-a.ensures; once_if = c.loop-n.invariant.once }
 
 pub loop-n-preserved : goal.loop-n-preserved
 loop-n-preserved c =

@@ -4,9 +4,6 @@ use Rattle.table_test.proofs.Laws.Fits.{keeps-count}
 use Rattle.merge_log.proofs.Laws.Runs.{run_small, leads-more, once-left, leads_one, leads-none}
 use Rattle.merge_log.proofs.log.take_out.Goals as goal
 
-pub overflow_sub-i : goal.overflow_sub-i
-overflow_sub-i c = (c.stands_before.ensures c.if-stands_before.true).some
-
 pub overflow_add-k : goal.overflow_add-k
 overflow_add-k c =
     omega (arith, run_small c.args.model.now c.args.r c.requires.good_model c.requires.run_in)

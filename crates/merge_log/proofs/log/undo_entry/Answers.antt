@@ -3,33 +3,17 @@ use Rattle.tables.specs.ModelTable.{parent_is}
 use Rattle.merge_log.proofs.Laws.Undo.{undo-parent-asks, undo-set-asks, undo-import, undo-restriction, undo-extension}
 use Rattle.merge_log.proofs.log.undo_entry.Goals as goal
 
-pub take_out-q-requires : goal.take_out-q-requires
-take_out-q-requires c =
-    let h = rw c.in-Import.is at c.requires.entry_in in record { good_model = c.requires.good_model; run_in = c.requires.run_in; p_bound = h.1; once_if = c.requires.once_if }
-
 pub set_parent-requires : goal.set_parent-requires
 set_parent-requires c =
     let h = rw c.in-Import.is at c.requires.entry_in in
     let r = undo-parent-asks c.args.model.now c.take_out-q.new.model c.in-Import.e.0 (parent_is c.in-Import.parent) c.requires.good_model c.take_out-q.ensures.keeps c.take_out-q.ensures.good h.0 h.2 in record { good_model = r.0; e_bound = r.1; parent_below = r.2 }
 
-pub set_set-requires : goal.set_set-requires
-set_set-requires c =
+pub set_set-requires-clause-e_bound : goal.set_set-requires-clause-e_bound
+set_set-requires-clause-e_bound c =
     let h = rw c.in-Import.is at c.requires.entry_in in
     let r = undo-set-asks c.args.model.now c.take_out-q.new.model c.set_parent.new.model c.in-Import.e.0 (parent_is c.in-Import.parent)
     c.requires.good_model c.take_out-q.ensures.keeps c.set_parent.ensures h.0 in
-    record { good_model = r.0; e_bound = r.1 }
-
-pub set_set-requires-in-Restriction : goal.set_set-requires-in-Restriction
-set_set-requires-in-Restriction c =
-    let h = rw c.in-Restriction.is at c.requires.entry_in in record { good_model = c.requires.good_model; e_bound = h }
-
-pub set_of-requires : goal.set_of-requires
-set_of-requires c =
-    let h = rw c.in-Extension.is at c.requires.entry_in in record { good_model = c.requires.good_model; e_bound = h.0 }
-
-pub set_set-requires-in-Extension : goal.set_set-requires-in-Extension
-set_set-requires-in-Extension c =
-    let h = rw c.in-Extension.is at c.requires.entry_in in record { good_model = c.requires.good_model; e_bound = h.0 }
+    r.1
 
 pub returns-in-Import : goal.returns-in-Import
 returns-in-Import c =
