@@ -7,9 +7,6 @@ use Rattle.deck.proofs.Laws.Texts.{printable-low, printable-high, printable-is}
 use Rattle.deck.proofs.fields.all_printable.Goals as goal
 use Rattle.deck.proofs.fields.all_printable.Goals.{then-b-lt32-via-then-b-lt32, then-b-lt32-via-else-b-lt32+then-b-gt126}
 
-pub loop-b-init : goal.loop-b-init
-loop-b-init c = refl
-
 pub returns-then-b-lt32 : goal.returns-then-b-lt32
 returns-then-b-lt32 c =
     let s = c.args.s.now in

@@ -29,14 +29,6 @@ returns-then-radix-d c =
       sym (c.loop-b.invariant.left ∙ rest-past r m v s i (omega arith) c.loop-b-test.true (omega arith) (omega (arith, over r m v c.digit-d.result (omega arith) (omega arith) (omega arith))))
     ]
 
-pub overflow_mul-value : goal.overflow_mul-value
-overflow_mul-value c =
-    record { fits = omega (arith, within c.args.radix c.args.most c.loop-b.value c.digit-d.result (omega arith) (omega arith) (omega arith)) }
-
-pub overflow_add-value : goal.overflow_add-value
-overflow_add-value c =
-    record { fits = omega (arith, within c.args.radix c.args.most c.loop-b.value c.digit-d.result (omega arith) (omega arith) (omega arith)) }
-
 pub loop-b-preserved : goal.loop-b-preserved
 loop-b-preserved c =
     record { place = search rules; small = within c.args.radix c.args.most c.loop-b.value c.digit-d.result (omega arith) (omega arith) (omega arith); left = rw c.digit-d.ensures (c.loop-b.invariant.left ∙ rest_more c.args.radix c.args.most c.loop-b.value c.args.s.now c.loop-b.b-index c.loop-b-test.true (omega arith)) }

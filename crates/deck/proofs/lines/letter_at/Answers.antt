@@ -5,13 +5,6 @@ use Rattle.deck.specs.Answers.{num_is}
 use Rattle.deck.proofs.Laws.Lines.{letter-one, letter-not}
 use Rattle.deck.proofs.lines.letter_at.Goals as goal
 
-pub overflow_sub-e : goal.overflow_sub-e
-overflow_sub-e c = omega (arith, (c.places-p.ensures c.args.deck.now c.requires).ordered, (c.places-p.ensures c.args.deck.now c.requires).within)
-
-pub bounds-deck-a : goal.bounds-deck-a
-bounds-deck-a c =
-    omega (arith, (c.places-p.ensures c.args.deck.now c.requires).within, (c.places-p.ensures c.args.deck.now c.requires).ordered, c.if-e-a-eq1.true)
-
 pub returns-then-e-a-eq1 : goal.returns-then-e-a-eq1
 unfolding num_is
 returns-then-e-a-eq1 c =

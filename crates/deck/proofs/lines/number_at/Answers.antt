@@ -5,15 +5,6 @@ use Rattle.deck.specs.Answers.{part_at}
 use Rattle.deck.proofs.Laws.Numbers.{number-bytes}
 use Rattle.deck.proofs.lines.number_at.Goals as goal
 
-pub slice_bounds-number-count : goal.slice_bounds-number-count
-slice_bounds-number-count c = omega (arith, (c.places-p.ensures c.args.deck.now c.requires.0).ordered, (c.places-p.ensures c.args.deck.now c.requires.0).within)
-
-pub slice_bounds-number-start : goal.slice_bounds-number-start
-slice_bounds-number-start c = omega (arith, (c.places-p.ensures c.args.deck.now c.requires.0).ordered, (c.places-p.ensures c.args.deck.now c.requires.0).within)
-
-pub slice_bounds-number-end : goal.slice_bounds-number-end
-slice_bounds-number-end c = omega (arith, (c.places-p.ensures c.args.deck.now c.requires.0).ordered, (c.places-p.ensures c.args.deck.now c.requires.0).within)
-
 pub returns : goal.returns
 returns c =
     c.number.ensures ∙ sym (number-bytes c.args.radix c.args.most (part_at c.args.deck.now c.places-p.result.start c.places-p.result.end)) ∙ ap (number c.args.radix c.args.most) (c.places-p.ensures c.args.deck.now c.requires.0).is

@@ -4,16 +4,10 @@ use Rattle.deck.proofs.Laws.Lines.{read-bad, read-kind}
 use borrow.Author.Rules.{rules}
 use Rattle.deck.proofs.lines.read_line.Goals as goal
 
-pub letter_at-requires : goal.letter_at-requires
-letter_at-requires c = c.split-f.ensures.placed
-
 pub returns-in_err-kind : goal.returns-in_err-kind
 unfolding line_is num_is
 returns-in_err-kind c =
     record { is = ap line_is c.from_residual.ensures ∙ sym (read-bad c.args.deck.now (part_at c.args.deck.now c.args.start c.args.end) c.split-f.result c.split-f.ensures (sym c.letter_at.ensures ∙ ap num_is c.in_err-kind.was)); fits = rw c.from_residual.ensures tt }
-
-pub row-requires : goal.row-requires
-row-requires c = (c.split-f.ensures.placed, search rules)
 
 pub returns : goal.returns
 unfolding num_is

@@ -9,10 +9,6 @@ pub returns-in_err-kind : goal.returns-in_err-kind
 unfolding text_is num_is text_fields bind
 returns-in_err-kind c = record { is = rw (c.from_residual.ensures, ← c.letter_at.ensures, c.in_err-kind.was); fits = rw c.from_residual.ensures tt }
 
-pub text_field-requires : goal.text_field-requires
-text_field-requires c =
-    ((c.places-p.ensures c.args.deck.now c.requires.0).ordered, (c.places-p.ensures c.args.deck.now c.requires.0).within, omega arith)
-
 pub returns : goal.returns
 unfolding num_is text_fields bind
 returns c =
