@@ -7,7 +7,7 @@ ghost use Rattle.tables.specs.Records.{enum_number, add_element, add_text, add_t
 ghost use Rattle.tables.specs.Texts.{stored_is, StoredFits};
 ghost use Rattle.tables.specs.ElementsTable.{elements_of, GoodElements, HoldsElements, text_cells, tree_cells, no_tree, element_width, text_width, tree_width};
 
-use crate::cells::{put2, put3};
+use crate::cells::put;
 use crate::limits::{ELEMENT_LIMIT, FILE_LIMIT, ITEM_LIMIT};
 use crate::numbers::{Element, FileNumber, Name, TypeNumber};
 use crate::text::StoredText;
@@ -133,12 +133,10 @@ pub fn add_element_row(elements: &mut [u64], n: Name, t: TypeNumber, depth: u64)
     ensures { HoldsElements elements.new (add_element (elements_of elements.old) n.0 t.0 depth) }
 {
     let m = element_count(elements);
-    put3(
+    put(
         elements,
         ELEMENTS_AT + m * ELEMENT_WIDTH,
-        n.0,
-        t.0 as u64,
-        depth,
+        &[n.0, t.0 as u64, depth],
     );
     elements[0] = m as u64 + 1;
 }
@@ -150,7 +148,7 @@ pub fn add_text(elements: &mut [u64], t: StoredText)
     ensures { HoldsElements elements.new (add_text (elements_of elements.old) (stored_is t)) }
 {
     let m = text_count(elements);
-    put2(elements, TEXTS_AT + m * TEXT_WIDTH, t.kind(), t.value());
+    put(elements, TEXTS_AT + m * TEXT_WIDTH, &[t.kind(), t.value()]);
     elements[1] = m as u64 + 1;
 }
 
@@ -160,6 +158,6 @@ pub fn add_tree(elements: &mut [u64], f: FileNumber, root: Element)
     ensures { HoldsElements elements.new (add_tree (elements_of elements.old) (record { file = f.0; root = root.0 })) }
 {
     let m = tree_count(elements);
-    put2(elements, TREES_AT + m * TREE_WIDTH, f.0, root.0 as u64);
+    put(elements, TREES_AT + m * TREE_WIDTH, &[f.0, root.0 as u64]);
     elements[2] = m as u64 + 1;
 }

@@ -8,7 +8,7 @@ ghost use Rattle.tables.specs.ModelTable.{parent_is, parent_cell, cell_parent, P
 ghost use Rattle.tables.specs.SetCells.{set_is, set_cells, cells_set};
 ghost use Rattle.tables.specs.LogTable.{log_of, GoodLog, HoldsLog, entry_at, entry_cells, entry_is, EntryFits, entry_width, old_set_at};
 
-use crate::cells::put2;
+use crate::cells::put;
 use crate::file_set::{FileSet, SET_WIDTH, read_set, store_set};
 use crate::limits::LOG_LIMIT;
 use crate::model;
@@ -125,10 +125,8 @@ fn put_entry(log: &mut [u64], at: usize, c: EntryCells)
     requires { at + entry_width ≤ length log.old }
     ensures { log.new ≡ puts log.old at (c.kind ∷ c.element ∷ c.third ∷ c.old ∷ set_cells (set_is c.set)) }
 {
-    put2(log, at, c.kind, c.element);
-    put2(log, at + 2, c.third, c.old);
-    let set = c.set;
-    store_set(log, at + OLD_SET_AT, set);
+    put(log, at, &[c.kind, c.element, c.third, c.old]);
+    store_set(log, at + OLD_SET_AT, c.set);
 }
 
 // One more entry, the newest.

@@ -5,7 +5,7 @@ use mathlib.Core.List.{List, [], ◌∷◌, ◌++◌, map, reverse, reverse-cons
 use Prim.Native.Nat.{ℕ, zero, suc, ◌+◌, ◌*◌, ◌-◌, ◌≤◌, ◌<◌}
 use native.Mathlib.Nat.{zero-add, suc-add, add-zero, suc-mul, zero-mul, le_of_suc-le-suc, not-suc-le-zero, mul-le-mul_right}
 use native.Mathlib.Omega.{arith}
-use lib.ListN.{length, set, get_or, take, drop, replicate, length-append, length-replicate, length-set, get_or-append, replicate-append-replicate, take-append-drop}
+use lib.ListN.{length, set, get_or, take, drop, replicate, length-append, length-replicate, length-set, length-drop, get_or-append, replicate-append-replicate, take-append-drop}
 use lib.Seq.{set-append_left, take_all, take_at, drop_at, drop-drop, take-add, length-take-le}
 use borrow.Rule.Slice.PartMut.{mid_of, put_mid}
 use Rattle.tables.specs.Cells.{padded, puts, Each, row_cells, cells, rows_of, row_at}
@@ -63,6 +63,19 @@ puts-front (x ∷ xs) ys [] e = absurd (not-suc-le-zero (subst (λ (n : ℕ). su
 puts-front (x ∷ xs) ys (v ∷ vs) e =
     let h : length xs ≡ length vs = omega arith in
     puts-behind (v ∷ []) (xs ++ ys) 1 0 vs refl ∙ ap (λ (r : List ℕ). v ∷ r) (puts-front xs ys vs h)
+
+-- a part with other values in its place
+pub puts-mid : (l vs : List ℕ) (at k : ℕ) → k ≡ length vs → at + k ≤ length l → put_mid at k l vs ≡ puts l at vs
+puts-mid l vs at k e h =
+    let p : List ℕ = take at l in
+    let q : List ℕ = take k (drop at l) in
+    let r : List ℕ = drop k (drop at l) in
+    let whole : p ++ (q ++ r) ≡ l = ap (λ (m : List ℕ). p ++ m) (take-append-drop k (drop at l)) ∙ take-append-drop at l in
+    let before : length p ≡ at = length-take-le at l (omega arith) in
+    let lent : length q ≡ length vs = length-take-le k (drop at l) (omega (arith, length-drop at l)) ∙ e in
+    let stored : puts q 0 vs ≡ vs = rw (append-nil q, append-nil vs) at (puts-front q [] vs lent) in
+    let inside : puts (p ++ (q ++ r)) at vs ≡ p ++ (puts q 0 vs ++ r) = rw (add-zero at) at (puts-inside p q r at 0 vs before (omega arith)) in
+    ap (λ (m : List ℕ). p ++ (m ++ r)) (sym stored) ∙ sym inside ∙ ap (λ (m : List ℕ). puts m at vs) whole
 
 -- the last k of the first j + k
 drop-part : (xs : List ℕ) (j k n : ℕ) → j + k ≡ n → drop j (take n xs) ≡ take k (drop j xs)

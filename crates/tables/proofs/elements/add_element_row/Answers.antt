@@ -4,4 +4,4 @@ use Rattle.tables.proofs.elements.add_element_row.Goals as goal
 
 pub returns : goal.returns
 returns c =
-    added-element c.args.elements.now (search rules) _ _ c.args.n.0 c.args.t.0 c.args.depth (search rules) c.element_count-m.ensures c.put3.ensures
+    added-element c.args.elements.now (search rules) _ _ c.args.n.0 c.args.t.0 c.args.depth (search rules) c.element_count-m.ensures c.put.ensures

@@ -12,4 +12,4 @@ use Rattle.tables.proofs.elements.add_text.Goals as goal
 pub returns : goal.returns
 returns c =
     added-text c.args.elements.now (search rules) _ _ (stored_is c.args.t) (stored_fits c.args.t c.requires.stored_fits) (search rules) c.text_count-m.ensures
-    (c.put2.ensures ∙ (λ i. puts c.args.elements.now (texts_at + c.text_count-m.result * text_width) (c.kind.ensures i ∷ c.value.ensures i ∷ [])))
+    (c.put.ensures ∙ (λ i. puts c.args.elements.now (texts_at + c.text_count-m.result * text_width) (c.kind.ensures i ∷ c.value.ensures i ∷ [])))

@@ -6,6 +6,4 @@ use Rattle.tables.proofs.log.put_entry.Goals as goal
 pub returns : goal.returns
 returns c =
     let e = c.args.c in
-    let front = e.kind ∷ e.element ∷ [] in
-    let four = puts_then c.args.log.now _ _ c.args.at front (e.third ∷ e.old ∷ []) c.put2.ensures c.put2-2.ensures in
-    puts_then c.args.log.now _ _ c.args.at (e.kind ∷ e.element ∷ e.third ∷ e.old ∷ []) (set_cells (set_is e.set)) four c.store_set.ensures
+    puts_then c.args.log.now _ _ c.args.at (e.kind ∷ e.element ∷ e.third ∷ e.old ∷ []) (set_cells (set_is e.set)) c.put.ensures c.store_set.ensures

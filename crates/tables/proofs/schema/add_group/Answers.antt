@@ -16,7 +16,7 @@ returns c =
     (added-group c.args.schema.now (search rules) _ _ _ (record { type = c.args.t.0; path = parts_of c.args.p; mode = mode_from c.args.mode }) _
     (length_front (cells_of c.args.p)) (search rules) c.group_count-m.ensures
     (group-cells c.args.t.0 _ _ _ _ (parts_of c.args.p) c.stored_path-q.ensures c.args.mode (search rules))
-    c.put6.ensures c.path_bucket.ensures.value)
+    c.put.ensures c.path_bucket.ensures.value)
 
 pub shape_of-schema : goal.shape_of-schema
 shape_of-schema c = (returns c).good.size ∙ sym c.requires.good_schema.size

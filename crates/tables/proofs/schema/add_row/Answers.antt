@@ -27,7 +27,7 @@ returns c =
     })
     _ _ (length_front (cells_of c.args.p)) (search rules) c.row_count-m.ensures
     (row-cells c.args.t.0 _ _ _ _ (parts_of c.args.p) c.stored_path-q.ensures c.args.n.0 c.args.child.0 (mult_is c.args.mult) c.args.mask c.number.ensures)
-    c.put9.ensures c.bucket.ensures.value c.path_bucket.ensures.value)
+    c.put.ensures c.bucket.ensures.value c.path_bucket.ensures.value)
 
 pub shape_of-schema : goal.shape_of-schema
 shape_of-schema c = (returns c).good.size ∙ sym c.requires.good_schema.size

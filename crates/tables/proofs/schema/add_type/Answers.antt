@@ -6,4 +6,4 @@ use Rattle.tables.proofs.schema.add_type.Goals as goal
 pub returns : goal.returns
 returns c =
     added-type c.args.schema.now (search rules) _ _ _ (record { mode = mode_from c.args.mode; named = c.args.named; split = c.args.split }) (search rules)
-    c.type_count-m.ensures (type-cells c.args.mode _ c.args.split c.args.named (search rules) (bool_cell c.args.named)) c.put3.ensures
+    c.type_count-m.ensures (type-cells c.args.mode _ c.args.split c.args.named (search rules) (bool_cell c.args.named)) c.put.ensures

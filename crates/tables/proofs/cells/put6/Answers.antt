@@ -1,7 +1,0 @@
-use mathlib.Core.List.{[], ◌∷◌}
-use Rattle.tables.proofs.Laws.Cells.{puts_then}
-use Rattle.tables.proofs.cells.put6.Goals as goal
-
-pub returns : goal.returns
-returns c =
-    puts_then c.args.s.now _ _ c.args.at (c.args.a ∷ c.args.b ∷ c.args.c ∷ []) (c.args.d ∷ c.args.e ∷ c.args.f ∷ []) c.put3.ensures c.put3-2.ensures
