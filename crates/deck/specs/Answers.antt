@@ -1,5 +1,5 @@
 -- What the answers of the code stand for in the rules. Assumes nothing.
-use Rattle.std.specs.Prelude.{true, false, List, [], ◌∷◌, ◌≡◌, ℕ, suc, ◌+◌, ◌≤◌, ◌<◌, eqb, length, get_or, take}
+use Rattle.std.specs.Prelude.{true, false, List, [], ◌∷◌, ◌≡◌, ℕ, suc, ◌+◌, ◌≤◌, ◌<◌, eqb, map, length, get_or, take}
 use Rattle.std.proofs.Math.Option.{Option, none, some}
 use Rattle.std.specs.Prelude as program_option
 use Rattle.std.specs.Prelude.{Some, None}
@@ -47,21 +47,25 @@ pub record Next (s : List ℕ) (separator at end r : ℕ) : Type 0 where
 
 -- ---- the places of a line's fields
 
--- the parts from each start up to its end
-unfoldable pub parts_at : List ℕ → List ℕ → List ℕ → List Part
-parts_at deck [] es = []
-parts_at deck (a ∷ ss) [] = []
-parts_at deck (a ∷ ss) (e ∷ es) = part_at deck a e ∷ parts_at deck ss es
+-- the part between two places
+abbrev pub span_part : List ℕ → Span → Part
+span_part deck s = part_at deck s.start s.end
 
 unfoldable pub fields_of : List ℕ → Fields → List Part
-fields_of deck f = take f.count (parts_at deck f.starts f.ends)
+fields_of deck f = take f.count (map (span_part deck) f.spans)
+
+abbrev pub no_bytes : Span
+no_bytes = record { start = 0; end = 0 }
+
+-- both places are the deck's, the first not behind the second
+abbrev pub Ordered : List ℕ → Span → Type 0
+Ordered deck s = (s.start ≤ s.end) × (s.end ≤ length deck)
 
 -- each place is one of the deck
 pub record Placed (deck : List ℕ) (f : Fields) : Type 0 where
   pub few : f.count ≤ 8
-  pub starts : length f.starts ≡ 8
-  pub ends : length f.ends ≡ 8
-  pub each : (i : ℕ) → i < f.count → (get_or f.starts i 0 ≤ get_or f.ends i 0) × (get_or f.ends i 0 ≤ length deck)
+  pub size : length f.spans ≡ 8
+  pub each : (i : ℕ) → i < f.count → Ordered deck (get_or f.spans i no_bytes)
 
 -- r has the places of the part
 pub record SpanOf (deck : List ℕ) (p : Part) (r : Span) : Type 0 where

@@ -34,43 +34,6 @@ pub fn line_end(deck: &[u8], at: usize) -> usize
     find_byte(deck, b'\n', at, deck.len())
 }
 
-// The places of a line's fields, as far as 8: no kind of line has more than 7.
-#[derive(Clone, Copy)]
-pub struct Fields {
-    pub count: usize,
-    pub starts: [usize; 8],
-    pub ends: [usize; 8],
-}
-
-pub fn split(deck: &[u8], start: usize, end: usize) -> Fields
-    requires { (start ≤ end) × (end ≤ length deck.now) }
-    ensures { Splits deck.now (fields (part_at deck.now start end)) result }
-{
-    let mut starts = [0usize; 8];
-    let mut ends = [0usize; 8];
-    let mut count = 0;
-    let mut at = start;
-    while count < 8 {
-        let e = find_byte(deck, b',', at, end);
-        starts[count] = at;
-        ends[count] = e;
-        count += 1;
-        if end <= e {
-            return Fields {
-                count,
-                starts,
-                ends,
-            };
-        }
-        at = e + 1;
-    }
-    Fields {
-        count,
-        starts,
-        ends,
-    }
-}
-
 // Two places in the deck.
 #[derive(Clone, Copy)]
 pub struct Span {
@@ -78,19 +41,41 @@ pub struct Span {
     pub end: usize,
 }
 
+const NO_BYTES: Span = Span { start: 0, end: 0 };
+
+// The places of a line's fields, as far as 8: no kind of line has more than 7.
+#[derive(Clone, Copy)]
+pub struct Fields {
+    pub count: usize,
+    pub spans: [Span; 8],
+}
+
+pub fn split(deck: &[u8], start: usize, end: usize) -> Fields
+    requires { (start ≤ end) × (end ≤ length deck.now) }
+    ensures { Splits deck.now (fields (part_at deck.now start end)) result }
+{
+    let mut spans = [NO_BYTES; 8];
+    let mut at = start;
+    for i in 0..8 {
+        let e = find_byte(deck, b',', at, end);
+        spans[i] = Span { start: at, end: e };
+        if end <= e {
+            return Fields {
+                count: i + 1,
+                spans,
+            };
+        }
+        at = e + 1;
+    }
+    Fields { count: 8, spans }
+}
+
 // The places of field i; of no bytes where there is none.
 pub fn places(f: Fields, i: usize) -> Span
     requires { f.count ≤ 8 }
     ensures { (deck : List ℕ) → Placed deck f → SpanOf deck (field (fields_of deck f) i) result }
 {
-    if i < f.count {
-        Span {
-            start: f.starts[i],
-            end: f.ends[i],
-        }
-    } else {
-        Span { start: 0, end: 0 }
-    }
+    if i < f.count { f.spans[i] } else { NO_BYTES }
 }
 
 // Field i as a number.

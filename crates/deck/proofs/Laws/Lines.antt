@@ -1,117 +1,90 @@
 -- Fields of a line by their places, and the kinds of lines. Assumes nothing.
 use mathlib.Core.Bool.{Bool, true, false}
-use mathlib.Core.List.{List, [], ◌∷◌, ◌++◌, append_assoc}
+use mathlib.Core.List.{List, [], ◌∷◌, ◌++◌, map, append_assoc}
 use mathlib.Core.Option.{none, some, bind}
 use mathlib.Core.Path.{◌≡◌, refl, sym, ◌∙◌, ap}
 use Prim.Native.Nat.{ℕ, zero, suc, ◌+◌, ◌-◌, ◌≤◌, ◌<◌}
 use native.Mathlib.Numerals.{add-one}
 use native.Mathlib.Omega.{arith}
-use borrow.Author.Count.{below_none, below_more}
+use borrow.Author.Count.{below_more}
 use borrow.Author.Tests.{eq-eqb, ne_eqb, eqb-true, eqb-false}
 use lib.Dec.{eqb}
-use lib.ListN.{length, get_or, take, set, length-set, length-take, get_or-eq_default}
+use lib.ListN.{length, get_or, take, set, length-set, length-take, length-map, get_or-eq_default}
+use Rattle.std.proofs.lemmas.List.{get_or-map, map-set}
 use lib.Seq.{get_or-set_same, get_or-set_other, take-suc-set, take_all, take_at, get_or-take}
 use Rattle.deck.specs.Deck.{Part, parts, fields, field, only, letter, by_letter, line_t, line_g, line_s, line_f, line_m, line_b, line_e, line_c, kinds, read_line}
 use Rattle.deck.specs.declared.lines.Fields.{Fields}
+use Rattle.deck.specs.declared.lines.Span.{Span}
 use Rattle.tables.specs.Cells.{between}
-use Rattle.deck.specs.Answers.{part_at, Next, parts_at, fields_of, Placed, Splits, SpanOf}
+use Rattle.deck.specs.Answers.{part_at, Next, span_part, fields_of, no_bytes, Ordered, Placed, Splits, SpanOf}
 use Rattle.deck.proofs.Laws.Letters.{letter-alike}
 use Rattle.deck.proofs.Laws.Parts.{next-part, last-part, between_cons, length-between}
 
--- ---- parts by their places
-
-pub length-parts : (deck ss es : List ℕ) → length ss ≡ length es → length (parts_at deck ss es) ≡ length ss
-unfolding parts_at
-length-parts deck [] es h = refl
-length-parts deck (a ∷ ss) [] h = absurd (omega arith)
-length-parts deck (a ∷ ss) (e ∷ es) h = ap suc (length-parts deck ss es (omega arith))
-
-pub parts-set : (deck ss es : List ℕ) (i a e : ℕ) → i < length ss → i < length es
-    → parts_at deck (set ss i a) (set es i e) ≡ set (parts_at deck ss es) i (part_at deck a e)
-unfolding parts_at
-parts-set deck [] es i a e h k = absurd (omega arith)
-parts-set deck (x ∷ ss) [] i a e h k = absurd (omega arith)
-parts-set deck (x ∷ ss) (y ∷ es) zero a e h k = refl
-parts-set deck (x ∷ ss) (y ∷ es) (suc i) a e h k = ap (λ (l : List Part). part_at deck x y ∷ l) (parts-set deck ss es i a e (omega arith) (omega arith))
-
-pub parts-at : (deck ss es : List ℕ) (i : ℕ) (d : Part) → i < length ss → i < length es
-    → get_or (parts_at deck ss es) i d ≡ part_at deck (get_or ss i 0) (get_or es i 0)
-unfolding parts_at
-parts-at deck [] es i d h k = absurd (omega arith)
-parts-at deck (x ∷ ss) [] i d h k = absurd (omega arith)
-parts-at deck (x ∷ ss) (y ∷ es) zero d h k = refl
-parts-at deck (x ∷ ss) (y ∷ es) (suc i) d h k = parts-at deck ss es i d (omega arith) (omega arith)
-
 -- ---- a line split at its commas
 
--- two places in the deck, the first not behind the second
-abbrev pub Ordered : List ℕ → List ℕ → List ℕ → ℕ → Type 0
-Ordered deck ss es i = (get_or ss i 0 ≤ get_or es i 0) × (get_or es i 0 ≤ length deck)
-
 -- the first fields have places, and the others are those behind `at`
-pub record Splitting (deck : List ℕ) (l : List Part) (end : ℕ) (ss es : List ℕ) (n at : ℕ) : Type 0 where
+pub record Splitting (deck : List ℕ) (l : List Part) (end : ℕ) (ss : List Span) (n at : ℕ) : Type 0 where
   pub few : n ≤ 8
-  pub starts : length ss ≡ 8
-  pub ends : length es ≡ 8
-  pub each : (i : ℕ) → i < n → Ordered deck ss es i
+  pub size : length ss ≡ 8
+  pub each : (i : ℕ) → i < n → Ordered deck (get_or ss i no_bytes)
   pub before : at ≤ end
-  pub left : l ≡ take n (parts_at deck ss es) ++ parts 44 at (between at end deck)
+  pub left : l ≡ take n (map (span_part deck) ss) ++ parts 44 at (between at end deck)
 
-pub split-start : (deck : List ℕ) (start end : ℕ) (ss es : List ℕ) → length ss ≡ 8 → length es ≡ 8 → start ≤ end
-    → Splitting deck (fields (part_at deck start end)) end ss es 0 start
+pub split-start : (deck : List ℕ) (start end : ℕ) (ss : List Span) → length ss ≡ 8 → start ≤ end
+    → Splitting deck (fields (part_at deck start end)) end ss 0 start
 unfolding fields
-split-start deck start end ss es hs he h =
-    record { few = omega arith; starts = hs; ends = he; each = below_none (Ordered deck ss es); before = h; left = refl }
+split-start deck start end ss hs h =
+    record { few = omega arith; size = hs; each = λ i k. absurd (omega arith); before = h; left = refl }
 
-pub split-full : (deck : List ℕ) (l : List Part) (end : ℕ) (ss es : List ℕ) (n at : ℕ) → Splitting deck l end ss es n at → 8 ≤ n
-    → Splits deck l (record { count = n; starts = ss; ends = es })
+pub split-full : (deck : List ℕ) (l : List Part) (end : ℕ) (ss : List Span) (n at : ℕ) → Splitting deck l end ss n at → 8 ≤ n
+    → Splits deck l (record { count = 8; spans = ss })
 unfolding fields_of
-split-full deck l end ss es n at w h =
+split-full deck l end ss n at w h =
     let z : n ≡ 8 = omega (arith, w.few) in
-    let y : length (take n (parts_at deck ss es)) ≡ 8 = rw (length-take, length-parts deck ss es (w.starts ∙ sym w.ends), w.starts, z) in
+    let y : length (take n (map (span_part deck) ss)) ≡ 8 = rw (length-take, length-map ss (span_part deck), w.size, z) in
     record {
-      placed = record { few = w.few; starts = w.starts; ends = w.ends; each = w.each };
-      is = sym (ap (take 8) w.left ∙ take_at (take n (parts_at deck ss es)) (parts 44 at (between at end deck)) 8 y);
+      placed = record { few = omega arith; size = w.size; each = λ i k. w.each i (omega arith) };
+      is =
+          sym (ap (λ (k : ℕ). take k (map (span_part deck) ss)) z)
+          ∙ sym (ap (take 8) w.left ∙ take_at (take n (map (span_part deck) ss)) (parts 44 at (between at end deck)) 8 y);
     }
 
-module _ (deck : List ℕ) (l : List Part) (end : ℕ) (ss es : List ℕ) (n at e : ℕ) (fits : end ≤ length deck)
-    (w : Splitting deck l end ss es n at) (h : n < 8) (x : Next deck 44 at end e) where
-  stored : take (n + 1) (parts_at deck (set ss n at) (set es n e)) ≡ take n (parts_at deck ss es) ++ (part_at deck at e ∷ [])
+module _ (deck : List ℕ) (l : List Part) (end : ℕ) (ss : List Span) (n at e : ℕ) (fits : end ≤ length deck)
+    (w : Splitting deck l end ss n at) (h : n < 8) (x : Next deck 44 at end e) where
+  abbrev found : Span
+  found = record { start = at; end = e }
+
+  stored : take (n + 1) (map (span_part deck) (set ss n found)) ≡ take n (map (span_part deck) ss) ++ (part_at deck at e ∷ [])
   stored =
-      rw (add-one n, parts-set deck ss es n at e (omega (arith, w.starts)) (omega (arith, w.ends)))
-      (take-suc-set (parts_at deck ss es) n (part_at deck at e)
-      (rw (length-parts deck ss es (w.starts ∙ sym w.ends)) (omega (arith, w.starts))))
+      rw (add-one n, map-set (span_part deck) ss n found)
+      (take-suc-set (map (span_part deck) ss) n (part_at deck at e) (rw (length-map ss (span_part deck)) (omega (arith, w.size))))
 
-  each-stored : (i : ℕ) → i < n + 1 → Ordered deck (set ss n at) (set es n e) i
+  each-stored : (i : ℕ) → i < n + 1 → Ordered deck (get_or (set ss n found) i no_bytes)
   each-stored =
-      below_more (Ordered deck (set ss n at) (set es n e)) n
-      (λ i k.
-      let ne : i ≡ n → ⊥ = λ q. absurd (omega arith) in
-      rw (get_or-set_other ss n i at 0 ne, get_or-set_other es n i e 0 ne) (w.each i k))
-      (rw (get_or-set_same ss n at 0 (omega (arith, w.starts)), get_or-set_same es n e 0 (omega (arith, w.ends)))
-      (x.past, omega (arith, x.within)))
+      below_more (λ (i : ℕ). Ordered deck (get_or (set ss n found) i no_bytes)) n
+      (λ i k. let ne : i ≡ n → ⊥ = λ q. absurd (omega arith) in rw (get_or-set_other ss n i found no_bytes ne) (w.each i k))
+      (rw (get_or-set_same ss n found no_bytes (omega (arith, w.size))) (x.past, omega (arith, x.within)))
 
-  pub split-last : end ≤ e → Splits deck l (record { count = n + 1; starts = set ss n at; ends = set es n e })
+  pub split-last : end ≤ e → Splits deck l (record { count = n + 1; spans = set ss n found })
   unfolding fields_of
   split-last k =
-      let z : l ≡ take (n + 1) (parts_at deck (set ss n at) (set es n e)) =
-      w.left ∙ ap (λ (q : List Part). take n (parts_at deck ss es) ++ q) (last-part deck 44 at end e fits x k) ∙ sym stored in
+      let z : l ≡ take (n + 1) (map (span_part deck) (set ss n found)) =
+      w.left ∙ ap (λ (q : List Part). take n (map (span_part deck) ss) ++ q) (last-part deck 44 at end e fits x k) ∙ sym stored in
       record {
-        placed = record { few = omega arith; starts = simp length-set w.starts; ends = simp length-set w.ends; each = each-stored };
-        is = sym (ap (take 8) z ∙ take_all 8 (take (n + 1) (parts_at deck (set ss n at) (set es n e))) (rw length-take (omega arith)));
+        placed = record { few = omega arith; size = simp length-set w.size; each = each-stored };
+        is = sym (ap (take 8) z ∙ take_all 8 (take (n + 1) (map (span_part deck) (set ss n found))) (rw length-take (omega arith)));
       }
 
-  pub split-turn : e < end → Splitting deck l end (set ss n at) (set es n e) (n + 1) (e + 1)
+  pub split-turn : e < end → Splitting deck l end (set ss n found) (n + 1) (e + 1)
   split-turn k =
       record {
         few = omega arith;
-        starts = simp length-set w.starts;
-        ends = simp length-set w.ends;
+        size = simp length-set w.size;
         each = each-stored;
         before = omega arith;
         left =
-            w.left ∙ ap (λ (q : List Part). take n (parts_at deck ss es) ++ q) (next-part deck 44 at end e fits x k)
-            ∙ rw stored (sym (append_assoc (take n (parts_at deck ss es)) (part_at deck at e ∷ []) (parts 44 (e + 1) (between (e + 1) end deck))));
+            w.left ∙ ap (λ (q : List Part). take n (map (span_part deck) ss) ++ q) (next-part deck 44 at end e fits x k)
+            ∙ rw stored (sym (append_assoc (take n (map (span_part deck) ss)) (part_at deck at e ∷ []) (parts 44 (e + 1) (between (e + 1) end deck))));
       }
 
 -- ---- the one byte of a field
@@ -126,14 +99,13 @@ no-letter start (b ∷ bs) n = rw (letter, ne_eqb (length bs) 0 (λ e. n (ap suc
 pub fields-count : (deck : List ℕ) (f : Fields) → Placed deck f → length (fields_of deck f) ≡ f.count
 unfolding fields_of
 fields-count deck f w =
-    rw (fields_of, length-take, length-parts deck f.starts f.ends (w.starts ∙ sym w.ends)) (omega (arith, w.few, w.starts))
+    rw (fields_of, length-take, length-map f.spans (span_part deck)) (omega (arith, w.few, w.size))
 
 pub field_at : (deck : List ℕ) (f : Fields) (i : ℕ) → Placed deck f → i < f.count
-    → part_at deck (get_or f.starts i 0) (get_or f.ends i 0) ≡ field (fields_of deck f) i
+    → span_part deck (get_or f.spans i no_bytes) ≡ field (fields_of deck f) i
 unfolding fields_of
 field_at deck f i w h =
-    sym (get_or-take f.count (parts_at deck f.starts f.ends) i missing h
-    ∙ parts-at deck f.starts f.ends i missing (omega (arith, w.few, w.starts)) (omega (arith, w.few, w.ends)))
+    sym (get_or-take f.count (map (span_part deck) f.spans) i missing h ∙ get_or-map (span_part deck) f.spans i no_bytes missing (omega (arith, w.few, w.size)))
   where
     missing : Part
     missing = record { start = 0; bytes = [] }
@@ -142,11 +114,11 @@ pub field-none : (deck : List ℕ) (f : Fields) (i : ℕ) → Placed deck f → 
 field-none deck f i w h = sym (get_or-eq_default (fields_of deck f) (record { start = 0; bytes = [] }) (rw (fields-count deck f w) h))
 
 pub span-some : (deck : List ℕ) (f : Fields) (i : ℕ) → Placed deck f → i < f.count
-    → SpanOf deck (field (fields_of deck f) i) (record { start = get_or f.starts i 0; end = get_or f.ends i 0 })
+    → SpanOf deck (field (fields_of deck f) i) (get_or f.spans i no_bytes)
 span-some deck f i w h = record { ordered = (w.each i h).0; within = (w.each i h).1; is = field_at deck f i w h }
 
 pub span_none : (deck : List ℕ) (f : Fields) (i : ℕ) → Placed deck f → f.count ≤ i
-    → SpanOf deck (field (fields_of deck f) i) (record { start = 0; end = 0 })
+    → SpanOf deck (field (fields_of deck f) i) no_bytes
 span_none deck f i w h = record { ordered = omega arith; within = omega arith; is = field-none deck f i w h }
 
 module _ (deck : List ℕ) (start end : ℕ) (fits : end ≤ length deck) where

@@ -24,9 +24,9 @@ returns-then-radix-d c =
     elim c.then-radix-d.branch [
       | then-radix-d-via-then-radix-d w ↦ sym (c.loop-b.invariant.left ∙ rest-bad r m v s i c.loop-b-test.true (omega arith))
       | then-radix-d-via-else-radix-d+then-most-d w ↦
-      sym (c.loop-b.invariant.left ∙ rest-past r m v s i (omega arith) c.loop-b-test.true (omega arith) (omega arith))
+          sym (c.loop-b.invariant.left ∙ rest-past r m v s i (omega arith) c.loop-b-test.true (omega arith) (omega arith))
       | then-radix-d-via-else-radix-d+else-most-d+then-most-d-2 w ↦
-      sym (c.loop-b.invariant.left ∙ rest-past r m v s i (omega arith) c.loop-b-test.true (omega arith) (omega (arith, over r m v c.digit-d.result (omega arith) (omega arith) (omega arith))))
+          sym (c.loop-b.invariant.left ∙ rest-past r m v s i (omega arith) c.loop-b-test.true (omega arith) (omega (arith, over r m v c.digit-d.result (omega arith) (omega arith) (omega arith))))
     ]
 
 pub loop-b-preserved : goal.loop-b-preserved
