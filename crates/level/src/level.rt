@@ -20,8 +20,8 @@ ghost use Rattle.level.specs.Level.{restrict_new, apply_plan, merge_pair, Bare};
 
 use imports::import::import_new_items;
 use merge_log::log::restrict;
-use merge_log::refusals::{Outcome, Refusal};
-use pairing::plan::Planned;
+use merge_log::refusals::{Halt, Refusal};
+use pairing::plan::Unplanned;
 use pairing::walk::plan_level;
 use pairs::settle::{extend_pair, files_of_pair, settle};
 use schema_calls::files::least_version;
@@ -50,17 +50,10 @@ fn is_leaf(model: &[u64], e: Element) -> bool
     requires e_bound { e.0 < count_of (model_of model.now) }
     ensures { result ≡ true → children_of (model_of model.now) e.0 ≡ [] }
 {
-    let n = list_length(model, e);
-    if n == 0 {
-        return true;
-    }
-    if n != 1 {
-        return false;
-    }
-    let a = item_at(model, e, 0);
-    match a {
-        Item::Child(_) => false,
-        Item::Text(_) => true,
+    match list_length(model, e) {
+        0 => true,
+        1 => matches!(item_at(model, e, 0), Item::Text(_)),
+        _ => false,
     }
 }
 
@@ -81,7 +74,7 @@ fn is_bare(model: &[u64], a: Element, b: Element, depth: usize) -> bool
 }
 
 // An A-only element without a set gets the level's files.
-fn restrict_new(model: &mut [u64], log: &mut [u64], a: Element, files: FileSet) -> Outcome
+fn restrict_new(model: &mut [u64], log: &mut [u64], a: Element, files: FileSet) -> Result<(), Halt>
     requires good_model { GoodModel model.old }
     requires good_log { GoodLog log.old }
     requires a_bound { a.0 < count_of (model_of model.old) }
@@ -92,7 +85,7 @@ fn restrict_new(model: &mut [u64], log: &mut [u64], a: Element, files: FileSet) 
     if own.is_empty() {
         return restrict(model, log, a, files);
     }
-    Outcome::Done
+    Ok(())
 }
 
 // The A-only elements of a plan, in order.
@@ -102,29 +95,22 @@ fn restrict_elements(
     work: &[u16],
     na: usize,
     files: FileSet,
-) -> Outcome
+) -> Result<(), Halt>
     requires good_model { GoodModel model.old }
     requires log_fits { LogFits (count_of (model_of model.old)) log.old }
     requires rows_in { RowsIn (count_of (model_of model.old)) work.now na 0 }
     ensures log_after { outcome_is result (state_in model.new log.new) ≡ restrict_elements (set_is files) (plan_in na 0 work.now).restrictions (state_in model.old log.old) }
     ensures keeps_state { KeepsState model.old log.old model.new log.new }
 {
-    let mut i: usize = 0;
-    while i < na {
+    for i in 0..na {
         let row = 2 * i;
         if work[row + 1] != 0 {
-            i += 1;
             continue;
         }
         let a = Element(work[row] as usize);
-        let r = restrict_new(model, log, a, files);
-        if let Outcome::Done = r {
-            i += 1;
-        } else {
-            return r;
-        }
+        restrict_new(model, log, a, files)?;
     }
-    Outcome::Done
+    Ok(())
 }
 
 // The restrictions and imports of a plan, imports in the new file's version.
@@ -140,7 +126,7 @@ fn apply_plan(
     version: u64,
     files: FileSet,
     a: Element,
-) -> Outcome
+) -> Result<(), Halt>
     requires tested_schema { TestedSchema schema.now }
     requires good_elements { GoodElements elements.now }
     requires each { Each (λ (t : ℕ). t < length (schema_of schema.now).types) (elements_of elements.now).types }
@@ -152,11 +138,8 @@ fn apply_plan(
     ensures by_index { (deck : List ℕ) → outcome_is result (state_in model.new log.new) ≡ apply_plan (fixed_in deck schema.now elements.now) f.0 (set_is files) a.0 (plan_in na ni work.now) (state_in model.old log.old) }
     ensures keeps_state { KeepsState model.old log.old model.new log.new }
 {
-    let r = restrict_elements(model, log, work, na, files);
-    if let Outcome::Done = r {
-        return import_new_items(schema, elements, model, log, work, na, ni, f, version, a);
-    }
-    r
+    restrict_elements(model, log, work, na, files)?;
+    import_new_items(schema, elements, model, log, work, na, ni, f, version, a)
 }
 
 // The version of a pair's level: A without a set has the files of the level above, and so its version.
@@ -187,7 +170,7 @@ pub fn merge_apart(
     a: Element,
     b: Element,
     depth: usize,
-) -> Outcome
+) -> Result<(), Halt>
     requires good_fixed { GoodFixed deck.now schema.now elements.now }
     requires state_over { StateOver elements.now model.old log.old }
     requires f_lt_file_limit { f.0 < file_limit }
@@ -204,7 +187,7 @@ pub fn merge_apart(
     )
 }
 
-// Level: b is merged into a, by its plan: restrictions and imports, then pairs. At depth 0, where no listed element is, refusal 6. The usual answer of the pairs, Done, is tested for, so that it is not copied.
+// Level: b is merged into a, by its plan: restrictions and imports, then pairs. At depth 0, where no listed element is, refusal 6.
 #[cycle(levels)]
 fn merge_element(
     deck: &[u8],
@@ -220,7 +203,7 @@ fn merge_element(
     a: Element,
     b: Element,
     depth: usize,
-) -> Outcome
+) -> Result<(), Halt>
     requires good_fixed { GoodFixed deck.now schema.now elements.now }
     requires state_over { StateOver elements.now model.old log.old }
     requires f_lt_file_limit { f.0 < file_limit }
@@ -233,40 +216,32 @@ fn merge_element(
     ensures keeps_state { KeepsState model.old log.old model.new log.new }
 {
     if depth == 0 {
-        return Outcome::Refused(Refusal::Unmergeable(a));
+        return Err(Halt::Refused(Refusal::Unmergeable(a)));
     }
-    let planned = plan_level(deck, schema, elements, model, v, a, b, work);
-    match planned {
-        Planned::Rows(na, ni) => {
-            let r = apply_plan(
-                schema, elements, model, log, work, na, ni, f, version, files, a,
-            );
-            if let Outcome::Done = r {
-                let q = merge_sub_elements(
-                    deck,
-                    schema,
-                    elements,
-                    model,
-                    log,
-                    work,
-                    na,
-                    f,
-                    version,
-                    v,
-                    files,
-                    a,
-                    depth - 1,
-                );
-                if let Outcome::Done = q {
-                    return Outcome::Done;
-                }
-                return q;
-            }
-            r
-        }
-        Planned::UsedTwice(c) => Outcome::Refused(Refusal::UsedTwice(c)),
-        Planned::Unmergeable => Outcome::Refused(Refusal::Unmergeable(a)),
-    }
+    let rows = match plan_level(deck, schema, elements, model, v, a, b, work) {
+        Ok(rows) => rows,
+        Err(Unplanned::UsedTwice(c)) => return Err(Halt::Refused(Refusal::UsedTwice(c))),
+        Err(Unplanned::Unmergeable) => return Err(Halt::Refused(Refusal::Unmergeable(a))),
+    };
+    apply_plan(
+        schema, elements, model, log, work, rows.first, rows.new, f, version, files, a,
+    )?;
+    merge_sub_elements(
+        deck,
+        schema,
+        elements,
+        model,
+        log,
+        work,
+        rows.first,
+        f,
+        version,
+        v,
+        files,
+        a,
+        depth - 1,
+    )?;
+    Ok(())
 }
 
 // Pairs, in order. Levels below have the scratch slice behind the rows of A.
@@ -285,7 +260,7 @@ fn merge_sub_elements(
     files: FileSet,
     p: Element,
     depth: usize,
-) -> Outcome
+) -> Result<(), Halt>
     requires good_fixed { GoodFixed deck.now schema.now elements.now }
     requires state_over { StateOver elements.now model.old log.old }
     requires f_lt_file_limit { f.0 < file_limit }
@@ -297,17 +272,15 @@ fn merge_sub_elements(
     ensures keeps_state { KeepsState model.old log.old model.new log.new }
 {
     let rows = 2 * na;
-    let mut i: usize = 0;
-    while i < na {
+    for i in 0..na {
         let row = 2 * i;
         let mate = work[row + 1];
         if mate == 0 {
-            i += 1;
             continue;
         }
         let a = Element(work[row] as usize);
         let b = Element((mate - 1) as usize);
-        let r = merge_pair(
+        merge_pair(
             deck,
             schema,
             elements,
@@ -322,17 +295,12 @@ fn merge_sub_elements(
             a,
             b,
             depth,
-        );
-        if let Outcome::Done = r {
-            i += 1;
-        } else {
-            return r;
-        }
+        )?;
     }
-    Outcome::Done
+    Ok(())
 }
 
-// One pair: its level, and what becomes of it. The usual answer, Done, is tested for before it is copied for `settle`.
+// One pair: its level, and what becomes of it. The usual answer, Ok, is tested for before it is copied for `settle`.
 #[cycle(levels)]
 fn merge_pair(
     deck: &[u8],
@@ -349,7 +317,7 @@ fn merge_pair(
     a: Element,
     b: Element,
     depth: usize,
-) -> Outcome
+) -> Result<(), Halt>
     requires good_fixed { GoodFixed deck.now schema.now elements.now }
     requires state_over { StateOver elements.now model.old log.old }
     requires f_lt_file_limit { f.0 < file_limit }
@@ -383,7 +351,7 @@ fn merge_pair(
             b,
             depth,
         );
-        if let Outcome::Done = below {
+        if below.is_ok() {
             return extend_pair(model, log, f, a);
         }
         return settle(

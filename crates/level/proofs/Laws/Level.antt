@@ -1,4 +1,5 @@
 -- Level and Pairs on the lent tables. Assumes nothing.
+use mathlib.Core.Bool.{false≢true}
 use mathlib.Core.List.{List, [], ◌∷◌}
 use mathlib.Core.Option.{Option, none, some}
 use mathlib.Core.Path.{◌≡◌, refl, sym, ap, ◌∙◌}
@@ -6,6 +7,7 @@ use Prim.Native.Nat.{ℕ, suc, ◌+◌, ◌-◌, ◌*◌, ◌≤◌, ◌<◌}
 use native.Mathlib.Omega.{arith}
 use lib.ListN.{length, get_or, take}
 use lib.Seq.{get_or-take}
+use Rattle.std.specs.Prelude.{true, Result, Ok, Err, is_ok}
 use Rattle.tables.specs.Limits.{item_limit, version_limit}
 use Rattle.tables.specs.ElementsTable.{elements_of}
 use Rattle.tables.specs.ModelTable.{item_is, count_of, model_of, GoodModel}
@@ -22,16 +24,15 @@ use Rattle.merge_rules.specs.Import.{import_new_items}
 use Rattle.merge_rules.specs.Level.{files_of_pair, extend_pair, restrict_elements, settle, merge_sub_elements, merge_plan, level_version, merge_element}
 use Rattle.merge_rules.specs.Pairing.{children, children_of, Pair, Plan, Walked, planned, unmergeable_in, walk_level, first_used_twice}
 use Rattle.merge_rules.specs.Refusals.{Outcome, done, refused, unmergeable, used_twice, ◌>>=◌}
-use Rattle.pairing.specs.Plans.{spread, pair_in, row_element, row_value, plan_in, RowsIn, LevelPlan, level_plan, child_used_twice, level_unmergeable, or_used_twice, checked_plan, plan_level, planned_is, PlanIn}
-use Rattle.pairing.specs.declared.plan.Planned.{Planned}
-use Rattle.pairing.specs.declared.plan.Planned.TheVariants.{Rows, UsedTwice, Unmergeable}
+use Rattle.pairing.specs.Plans.{spread, pair_in, row_element, row_value, plan_in, RowsIn, LevelPlan, level_plan, child_used_twice, level_unmergeable, or_used_twice, checked_plan, plan_level, Planned, planned_is, PlanIn}
+use Rattle.pairing.specs.declared.plan.Rows.{Rows}
+use Rattle.pairing.specs.declared.plan.Unplanned.TheVariants.{UsedTwice, Unmergeable}
 use Rattle.pairing.proofs.Laws.Spreads.{spread-here, spread-done}
 use Rattle.pairing.proofs.Laws.Rows.{mated, not-mated}
 use Rattle.pairing.proofs.Laws.Laying.{level-first, list-few}
 use Rattle.pairing.proofs.Laws.Walks.{no_plan}
 use Rattle.merge_log.specs.Answers.{outcome_is}
-use Rattle.merge_log.specs.declared.refusals.Outcome as step
-use Rattle.merge_log.specs.declared.refusals.Outcome.TheVariants.{Done}
+use Rattle.merge_log.specs.declared.refusals.Halt.{Halt}
 use Rattle.imports.proofs.Laws.Imports.{then-done, then-stop}
 use Rattle.level.specs.Level.{apply_plan, merge_level, merge_pair, Bare}
 use Rattle.pairs.proofs.Laws.Settle.{settle-done}
@@ -95,23 +96,23 @@ module _ (d : ℕ) (x : Fixed) (f : FileNumber) (files : FileSet) (a b : Element
       by-plan : (p : LevelPlan) → planned_is q w ≡ p → merge_element d x f files a b s ≡ merge_level (merge_element (d - 1) x f) x f v files a p s
       by-plan p e = level-is ∙ rw (← of-level, ← plan, e)
 
-      pub level-twice : (c : _) → q ≡ UsedTwice c → refused (used_twice c.0) ≡ merge_element d x f files a b s
+      pub level-twice : (c : _) → q ≡ Err (UsedTwice c) → refused (used_twice c.0) ≡ merge_element d x f files a b s
       unfolding merge_level
       level-twice c e = sym (by-plan (child_used_twice c.0) (rw e))
 
-      pub level-stuck : q ≡ Unmergeable → refused (unmergeable a) ≡ merge_element d x f files a b s
+      pub level-stuck : q ≡ Err Unmergeable → refused (unmergeable a) ≡ merge_element d x f files a b s
       unfolding merge_level
       level-stuck e = sym (by-plan level_unmergeable (rw e))
 
       -- the restrictions and imports, with their answer and the state that they left
-      module _ (na ni : ℕ) (rows : q ≡ Rows na ni) (t : State) (o : step.Outcome) (applied : outcome_is o t ≡ apply_plan x f files a (plan_in na ni w) s) where
-        pub level-stop : (o ≡ Done → ⊥) → outcome_is o t ≡ merge_element d x f files a b s
+      module _ (r : Rows) (rows : q ≡ Ok r) (t : State) (o : Result (Unit {0}) Halt) (applied : outcome_is o t ≡ apply_plan x f files a (plan_in r.first r.new w) s) where
+        pub level-stop : (o ≡ Ok tt → ⊥) → outcome_is o t ≡ merge_element d x f files a b s
         unfolding merge_level
-        level-stop h = then-stop t _ o applied h ∙ sym (by-plan (level_plan (plan_in na ni w)) (rw rows))
+        level-stop h = then-stop t _ o applied h ∙ sym (by-plan (level_plan (plan_in r.first r.new w)) (rw rows))
 
-        pub level-pairs : o ≡ Done → merge_sub_elements (merge_element (d - 1) x f) x f v a files (plan_in na 0 w).pairs t ≡ merge_element d x f files a b s
+        pub level-pairs : o ≡ Ok tt → merge_sub_elements (merge_element (d - 1) x f) x f v a files (plan_in r.first 0 w).pairs t ≡ merge_element d x f files a b s
         unfolding merge_level
-        level-pairs h = sym (then-done t _ o applied h) ∙ sym (by-plan (level_plan (plan_in na ni w)) (rw rows))
+        level-pairs h = sym (then-done t _ o applied h) ∙ sym (by-plan (level_plan (plan_in r.first r.new w)) (rw rows))
 
 -- the most cells that a level's plan takes
 pub room_most : (m : List ℕ) → GoodModel m → (a b : Element) → a < count_of (model_of m) → b < count_of (model_of m)
@@ -158,27 +159,31 @@ rows-first n w na ni r =
       place = λ i h. r.place i (omega arith);
     }
 
-pub plan-rows : (n : ℕ) (q : Planned) (w : List ℕ) (na ni : ℕ) → PlanIn n q w → q ≡ Rows na ni → RowsIn n w na ni
-plan-rows n q w na ni h e = rw e at h
+pub plan-rows : (n : ℕ) (q : Planned) (w : List ℕ) (r : Rows) → PlanIn n q w → q ≡ Ok r → RowsIn n w r.first r.new
+plan-rows n q w r h e = rw e at h
 
 -- ---- one pair
+
+pub ok-done : (o : Result (Unit {0}) Halt) → is_ok o ≡ true → o ≡ Ok tt
+ok-done (Ok tt) e = refl
+ok-done (Err h) e = absurd (false≢true e)
 
 -- its level's answer, with the state that it left
 module _ (lower : FileSet → Element → Element → State → Outcome) (x : Fixed) (f : FileNumber) (v : Version) (p : Element) (files : FileSet) (q : Pair) (s : State)
     (own : FileSet) (mark : ℕ) (files-own : own ≡ files_of_pair files s.model q.a) (marked : mark ≡ length s.log)
-    (t : State) (o : step.Outcome) (below : outcome_is o t ≡ lower own q.a q.b s) where
+    (t : State) (o : Result (Unit {0}) Halt) (below : outcome_is o t ≡ lower own q.a q.b s) where
   pub pair-settled : settle x f v p q own mark (outcome_is o t) ≡ merge_pair lower x f v p files q s
   unfolding merge_pair
   pair-settled = rw (below, files-own, marked)
 
-  pub pair-done : o ≡ Done → extend_pair f q.a t ≡ merge_pair lower x f v p files q s
+  pub pair-done : o ≡ Ok tt → extend_pair f q.a t ≡ merge_pair lower x f v p files q s
   pair-done d = settle-done x f v p q own mark t o d ∙ pair-settled
 
 pub pair-bare : (d : ℕ) (x : Fixed) (f : FileNumber) (v : Version) (p : Element) (files : FileSet) (q : Pair) (s : State) → Bare d s.model q.a q.b
     → extend_pair f q.a s ≡ merge_pair (merge_element d x f) x f v p files q s
 pair-bare d x f v p files q s e =
     let own = files_of_pair files s.model q.a in
-    pair-done (merge_element d x f) x f v p files q s own (length s.log) refl refl s Done (level-bare d x f own q.a q.b s e) refl
+    pair-done (merge_element d x f) x f v p files q s own (length s.log) refl refl s (Ok tt) (level-bare d x f own q.a q.b s e) refl
 
 -- ---- Pairs
 
@@ -248,7 +253,7 @@ module _ {lower : FileSet → Element → Element → State → Outcome} {deck s
         }
 
     -- a pair, its answer, and the tables that it left
-    module _ (some : row_value w i ≡ 0 → ⊥) (m' l' : List ℕ) (o : step.Outcome)
+    module _ (some : row_value w i ≡ 0 → ⊥) (m' l' : List ℕ) (o : Result (Unit {0}) Halt)
         (is : outcome_is o (state_in m' l') ≡ merge_pair lower (fixed_in deck schema elements) f v p files (record { a = row_element w i; b = row_value w i - 1 }) (state_in m l)) where
       here : (merge_pair lower (fixed_in deck schema elements) f v p files (record { a = row_element w i; b = row_value w i - 1 }) (state_in m l)
           >>= merge_sub_elements lower (fixed_in deck schema elements) f v p files (spread (pair_in w₀) (i + 1) (na - (i + 1))))
@@ -257,11 +262,11 @@ module _ {lower : FileSet → Element → Element → State → Outcome} {deck s
       here =
           sym (rw (spread-here (pair_in w₀) i na h, mated (row_element w₀ i) (row_value w₀ i) (λ z. some (row-value ∙ z)), ← row-element, ← row-value)) ∙ k.left
 
-      pub pairs-stop : (o ≡ Done → ⊥)
+      pub pairs-stop : (o ≡ Ok tt → ⊥)
           → outcome_is o (state_in m' l') ≡ merge_sub_elements lower (fixed_in deck schema elements) f v p files (plan_in na 0 w₀).pairs (state_in m₀ l₀)
       pairs-stop t = then-stop (state_in m' l') _ o is t ∙ here
 
-      pub pairs-more : (w' : List ℕ) → take (2 * na) w' ≡ take (2 * na) w → length w' ≡ length w → length m' ≡ length m → length l' ≡ length l → o ≡ Done
+      pub pairs-more : (w' : List ℕ) → take (2 * na) w' ≡ take (2 * na) w → length w' ≡ length w → length m' ≡ length m → length l' ≡ length l → o ≡ Ok tt
           → KeepsState m l m' l' → PairsLeft lower deck schema elements f v p files na w₀ m₀ l₀ w' m' l' (i + 1)
       pairs-more w' front size model_size log_size d keeps =
           record {

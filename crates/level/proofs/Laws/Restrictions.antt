@@ -5,6 +5,7 @@ use mathlib.Core.Path.{◌≡◌, refl, sym, ◌∙◌}
 use Prim.Native.Nat.{ℕ, ◌+◌, ◌-◌, ◌≤◌, ◌<◌}
 use native.Mathlib.Omega.{arith}
 use lib.Dec.{eqb}
+use Rattle.std.specs.Prelude.{Result, Ok}
 use Rattle.tables.specs.FileSets.{no_set}
 use Rattle.tables.specs.Limits.{item_limit}
 use Rattle.tables.specs.ModelTable.{count_of, model_of, GoodModel}
@@ -22,8 +23,7 @@ use Rattle.pairing.specs.Plans.{spread, restriction_in, row_element, row_value, 
 use Rattle.pairing.proofs.Laws.Spreads.{spread-here, spread-done}
 use Rattle.pairing.proofs.Laws.Rows.{restricted, not-restricted}
 use Rattle.merge_log.specs.Answers.{outcome_is}
-use Rattle.merge_log.specs.declared.refusals.Outcome as step
-use Rattle.merge_log.specs.declared.refusals.Outcome.TheVariants.{Done}
+use Rattle.merge_log.specs.declared.refusals.Halt.{Halt}
 use Rattle.imports.proofs.Laws.Imports.{then-done, then-stop}
 use Rattle.level.specs.Level.{restrict_new, apply_plan}
 use Rattle.pairs.proofs.Laws.Settle.{set-empty}
@@ -86,7 +86,7 @@ module _ (w : List ℕ) (na : ℕ) (files : FileSet) (m₀ l₀ : List ℕ) wher
           }
 
       -- an A-only one, with the answer of its restriction and the tables that it left
-      module _ (none : row_value w i ≡ 0) (m' l' : List ℕ) (o : step.Outcome)
+      module _ (none : row_value w i ≡ 0) (m' l' : List ℕ) (o : Result (Unit {0}) Halt)
           (is : outcome_is o (state_in m' l') ≡ restrict_new files (row_element w i) (state_in m l)) where
         here : restrict_elements files (spread (restriction_in w) i (na - i)) (state_in m l)
             ≡ (restrict_new files (row_element w i) (state_in m l) >>= restrict_elements files (spread (restriction_in w) (i + 1) (na - (i + 1))))
@@ -94,11 +94,11 @@ module _ (w : List ℕ) (na : ℕ) (files : FileSet) (m₀ l₀ : List ℕ) wher
             rw (spread-here (restriction_in w) i na h, restricted (row_element w i) (row_value w i) none)
             (restrict-cons files (row_element w i) (spread (restriction_in w) (i + 1) (na - (i + 1))) (state_in m l))
 
-        pub restricts-stop : (o ≡ Done → ⊥)
+        pub restricts-stop : (o ≡ Ok tt → ⊥)
             → outcome_is o (state_in m' l') ≡ restrict_elements files (spread (restriction_in w) 0 na) (state_in m₀ l₀)
         restricts-stop t = then-stop (state_in m' l') _ o is t ∙ sym here ∙ k.left
 
-        pub restricts-more : o ≡ Done → KeepsState m l m' l' → RestrictsLeft m' l' (i + 1)
+        pub restricts-more : o ≡ Ok tt → KeepsState m l m' l' → RestrictsLeft m' l' (i + 1)
         restricts-more d kept =
             record {
               within = omega arith;
@@ -109,12 +109,12 @@ module _ (w : List ℕ) (na : ℕ) (files : FileSet) (m₀ l₀ : List ℕ) wher
 
 -- ---- and then the imports
 
-module _ (x : Fixed) (f : FileNumber) (files : FileSet) (a : Element) (plan : Plan) (s t : State) (o : step.Outcome)
+module _ (x : Fixed) (f : FileNumber) (files : FileSet) (a : Element) (plan : Plan) (s t : State) (o : Result (Unit {0}) Halt)
     (is : outcome_is o t ≡ restrict_elements files plan.restrictions s) where
-  pub apply-stop : (o ≡ Done → ⊥) → outcome_is o t ≡ apply_plan x f files a plan s
+  pub apply-stop : (o ≡ Ok tt → ⊥) → outcome_is o t ≡ apply_plan x f files a plan s
   unfolding apply_plan
   apply-stop h = then-stop t _ o is h
 
-  pub apply-imports : o ≡ Done → (v : Version) → v ≡ version_of x.schema f → import_new_items x f v a 0 plan.imports t ≡ apply_plan x f files a plan s
+  pub apply-imports : o ≡ Ok tt → (v : Version) → v ≡ version_of x.schema f → import_new_items x f v a 0 plan.imports t ≡ apply_plan x f files a plan s
   unfolding apply_plan
   apply-imports d v e = rw e (sym (then-done t _ o is d))

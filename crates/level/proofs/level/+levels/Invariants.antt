@@ -1,4 +1,4 @@
-use Prim.Native.Nat.{◌+◌, ◌-◌, ◌*◌}
+use Prim.Native.Nat.{◌+◌, ◌*◌}
 use Rattle.tables.specs.SetCells.{set_is}
 use Rattle.state_test.specs.StateTest.{fixed_in}
 use Rattle.merge_rules.specs.Level.{merge_element}
@@ -17,9 +17,7 @@ decreases-merge_pair l = 4 * l.depth + 2
 abbrev pub decreases-merge_sub_elements : goal.decreases-merge_sub_elements
 decreases-merge_sub_elements l = 4 * l.depth + 3
 
+-- the pairs of the rows before i are done: those from i on do to the tables what is left of the whole
 abbrev pub invariant-merge_sub_elements-loop-i : goal.invariant-merge_sub_elements-loop-i
 invariant-merge_sub_elements-loop-i l =
     PairsLeft (merge_element l.depth (fixed_in l.deck l.schema l.elements) l.f.0) l.deck l.schema l.elements l.f.0 l.v l.p.0 (set_is l.files) l.na l.initial.work l.initial.model l.initial.log l.work l.model l.log l.i
-
-abbrev pub decreases-merge_sub_elements-loop-i : goal.decreases-merge_sub_elements-loop-i
-decreases-merge_sub_elements-loop-i l = l.na - l.i
