@@ -22,14 +22,13 @@ fn bits_of(s: &[u64]) -> u64
 pub fn all_zero(s: &[u64]) -> bool
     ensures { result ≡ all_of is_zero s.now }
 {
-    let mut any: u64 = 0;
-    let mut j = 0;
-    while j + BLOCK <= s.len() {
-        let end = j + BLOCK;
-        any = any | bits_of(&s[j..end]);
-        j = end;
+    let blocks = s.chunks_exact(BLOCK);
+    let rest = blocks.remainder();
+    let mut any = 0;
+    for block in blocks {
+        any = any | bits_of(block);
     }
-    (any | bits_of(&s[j..])) == 0
+    (any | bits_of(rest)) == 0
 }
 
 pub fn all_at_most(s: &[u64], n: u64) -> bool

@@ -1,14 +1,14 @@
 -- Laws of scans: cells that are all zero, entries that do not fall, and no element twice in a list. Assumes nothing.
 use mathlib.Core.Bool.{Bool, true, false, ◌&&◌, and-true, and_assoc}
-use mathlib.Core.List.{List, [], ◌∷◌, map}
+use mathlib.Core.List.{List, [], ◌∷◌, ◌++◌, map}
 use mathlib.Core.Path.{◌≡◌, refl, sym, ap, ◌∙◌}
-use Prim.Native.Nat.{ℕ, zero, suc, ◌+◌, ◌-◌, ◌≤◌, ◌<◌}
+use Prim.Native.Nat.{ℕ, zero, suc, ◌+◌, ◌-◌, ◌%◌, ◌≤◌, ◌<◌}
 use native.Mathlib.Omega.{arith}
 use borrow.Author.Tests.{eqb-true, eqb-false, eq-eqb, ne_eqb}
 use lib.Bits.{bit_or, or_add_and, and_le_r}
 use lib.Dec.{eqb, leb}
-use lib.ListN.{length, set, get_or, take, drop, length-set, take-append-drop}
-use lib.Seq.{drop-cons, drop-drop, drop-length, get_or-set_same, get_or-set_other}
+use lib.ListN.{length, set, get_or, drop, length-set, length-append}
+use lib.Seq.{drop-cons, drop-append-add, drop-length, get_or-set_same, get_or-set_other}
 use Rattle.tables.specs.Limits.{element_limit, item_limit}
 use Rattle.tables.specs.Lists.{any_of, all_of}
 use Rattle.tables.specs.Records.{Item, child, text}
@@ -32,18 +32,28 @@ module _ (x : ℕ) (s : List ℕ) (j : ℕ) where
   pub zeros-end : length s ≤ j → eqb x 0 ≡ (eqb x 0 && all_of is_zero (drop j s))
   zeros-end h = rw (all_end is_zero s j h) (sym (and-true (eqb x 0)))
 
--- x has the bits of all cells before j, r those from j up to a place behind them
-pub zeros-part : (x r : ℕ) (s : List ℕ) (j to : ℕ) → j ≤ to → eqb r 0 ≡ all_of is_zero (take (to - j) (drop j s))
-    → (eqb (bit_or x r) 0 && all_of is_zero (drop to s)) ≡ (eqb x 0 && all_of is_zero (drop j s))
-zeros-part x r s j to h e =
-    let here = take (to - j) (drop j s) in
-    let z : j + (to - j) ≡ to = omega arith in
-    let parts : all_of is_zero (drop j s) ≡ (all_of is_zero here && all_of is_zero (drop to s)) =
-    ap (all_of is_zero) (sym (take-append-drop (to - j) (drop j s))) ∙ all_append is_zero here (drop (to - j) (drop j s))
-    ∙ ap (λ (l : List ℕ). all_of is_zero here && all_of is_zero l) (drop-drop (to - j) j s ∙ ap (λ (k : ℕ). drop k s) z) in
-    ap (λ (b : Bool). b && all_of is_zero (drop to s)) (or-zero x r ∙ ap (λ (b : Bool). eqb x 0 && b) e)
-    ∙ and_assoc (eqb x 0) (all_of is_zero here) (all_of is_zero (drop to s))
-    ∙ ap (λ (b : Bool). eqb x 0 && b) (sym parts)
+-- r has the bits of the first cells of those left, or of all of them
+module _ (x r : ℕ) (first : List ℕ) (is : eqb r 0 ≡ all_of is_zero first) where
+  pub zeros-last : eqb (bit_or x r) 0 ≡ (eqb x 0 && all_of is_zero first)
+  zeros-last = or-zero x r ∙ ap (λ (b : Bool). eqb x 0 && b) is
+
+  pub zeros-block : (left : List ℕ) → (eqb (bit_or x r) 0 && all_of is_zero left) ≡ (eqb x 0 && all_of is_zero (first ++ left))
+  zeros-block left =
+      ap (λ (b : Bool). b && all_of is_zero left) zeros-last
+      ∙ and_assoc (eqb x 0) (all_of is_zero first) (all_of is_zero left)
+      ∙ ap (λ (b : Bool). eqb x 0 && b) (sym (all_append is_zero first left))
+
+-- the cells behind the last whole block of 16
+abbrev pub behind_blocks : List ℕ → List ℕ
+behind_blocks s = drop (length s - length s % 16) s
+
+pub behind-block : (block left : List ℕ) → length block ≡ 16 → behind_blocks (block ++ left) ≡ behind_blocks left
+behind-block block left h =
+    let e : length (block ++ left) - length (block ++ left) % 16 ≡ length block + (length left - length left % 16) = rw (length-append block left, h) (omega arith) in
+    rw e (drop-append-add block left (length left - length left % 16))
+
+pub behind-none : (s : List ℕ) → length s < 16 → behind_blocks s ≡ s
+behind-none s h = let z : length s - length s % 16 ≡ 0 = omega arith in ap (λ (k : ℕ). drop k s) z
 
 -- ---- entries that do not fall
 

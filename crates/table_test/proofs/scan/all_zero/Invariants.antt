@@ -1,14 +1,14 @@
 use mathlib.Core.Bool.{◌&&◌}
 use mathlib.Core.Path.{◌≡◌}
-use Prim.Native.Nat.{◌-◌, ◌≤◌}
 use lib.Dec.{eqb}
-use lib.ListN.{length, drop}
 use Rattle.tables.specs.Lists.{all_of}
 use Rattle.table_test.specs.ModelTest.{is_zero}
+use Rattle.table_test.proofs.Laws.Scans.{behind_blocks}
 use Rattle.table_test.proofs.scan.all_zero.Given as goal
 
-abbrev pub invariant-loop-j : goal.invariant-loop-j
-invariant-loop-j l = ((eqb l.any 0 && all_of is_zero (drop l.j l.s)) ≡ all_of is_zero l.s) × (l.j ≤ length l.s)
-
-abbrev pub decreases-loop-j : goal.decreases-loop-j
-decreases-loop-j l = length l.s - l.j
+-- the cells so far are zero, and those left are, where all are; the rest is what is left behind the last whole block
+abbrev pub invariant-loop-block : goal.invariant-loop-block
+invariant-loop-block l =
+    ((eqb l.any 0 && all_of is_zero l.block-iterator.rest.now) ≡ all_of is_zero l.s)
+    × (l.block-iterator.size ≡ 16)
+    × (l.rest ≡ behind_blocks l.block-iterator.rest.now)
