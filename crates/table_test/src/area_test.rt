@@ -79,15 +79,12 @@ impl Area {
             return false;
         }
         let w = self.width();
-        let n = count as usize;
-        for i in 0..n {
-            let a = i * w;
-            let b = a + w;
-            if !self.row_passes(&area[a..b]) {
+        let end = count as usize * w;
+        for row in area[..end].chunks_exact(w) {
+            if !self.row_passes(row) {
                 return false;
             }
         }
-        let end = n * w;
         scan::all_zero(&area[end..])
     }
 }

@@ -79,10 +79,6 @@ first_passes t (x ∷ l) a h =
     bool_case (λ o. o ≡ some a → t a ≡ true) (t x) (λ e k. ap t (sym (some-injective x a k)) ∙ e) (λ e k. first_passes t l a k) h
 
 module _ (sc : Schema) (i : ℕ) where
-  -- none at the start
-  pub none_found : length sc.sub_elements ≤ i → FoundRow sc i
-  none_found h k = absurd (omega arith)
-
   module _ (t n : ℕ) where
     pub found-row : row_of_name sc t n ≡ some (get_or sc.sub_elements i no_sub_element) → FoundRow sc i
     unfolding row_of_name find_sub_element
