@@ -79,12 +79,15 @@ impl Area {
             return false;
         }
         let w = self.width();
-        let end = count as usize * w;
-        for row in area[..end].chunks_exact(w) {
-            if !self.row_passes(row) {
+        let n = count as usize;
+        for i in 0..n {
+            let a = i * w;
+            let b = a + w;
+            if !self.row_passes(&area[a..b]) {
                 return false;
             }
         }
+        let end = n * w;
         scan::all_zero(&area[end..])
     }
 }

@@ -3,20 +3,19 @@ use mathlib.Core.Bool.{Bool, true, false, ◌&&◌, and-eq-true_iff, and-false}
 use mathlib.Core.List.{List, [], ◌∷◌, ◌++◌, append-nil}
 use mathlib.Core.Path.{◌≡◌, refl, sym, ap, ◌∙◌}
 use Prim.Native.Nat.{ℕ, zero, suc, ◌+◌, ◌*◌, ◌-◌, ◌≤◌, ◌<◌}
-use native.Mathlib.Nat.{zero-add, add-zero, zero-mul, suc-add, suc-mul, add-sub_cancel_left, mul-le-mul_right}
+use native.Mathlib.Nat.{zero-add, suc-add, suc-mul, add-sub_cancel_left, mul-le-mul_right}
 use native.Mathlib.Omega.{arith}
 use borrow.Author.Tests.{le-leb, lt-leb, leb-true}
 use lib.Dec.{leb}
-use lib.ListN.{length, get_or, take, drop, replicate, length-append, length-replicate, length-drop, take-append-drop, drop_of_length-le}
-use lib.Seq.{take-append_seam, drop-append_seam, take_all, take-take, drop-drop, length-take-le}
+use lib.ListN.{length, get_or, take, drop, replicate, length-replicate, length-drop, take-append-drop, drop_of_length-le}
+use lib.Seq.{take_all, take-take, drop-drop, length-take-le}
 use Rattle.tables.specs.Cells.{Each, cells, rows_of, row_at, between}
 use Rattle.tables.specs.Lists.{all_of}
 use Rattle.table_test.specs.ModelTest.{is_zero}
 use Rattle.table_test.specs.AreaTest.{area_width, area_limit, row_tests, row_passes, rows_in, area_passes}
 use Rattle.table_test.specs.declared.area_test.Area.{Area}
-use Rattle.table_test.specs.declared.area_test.Area.TheVariants.{Types, Groups, SubElements, Files, Elements, Texts, Trees, Entries}
 use Rattle.tables.proofs.Laws.Cells.{cells-again, get_d-rows_of, length-rows_of}
-use Rattle.tables.proofs.Laws.Scans.{all_head, all_tail, all-at}
+use Rattle.tables.proofs.Laws.Scans.{all_more, all-stop, all_end, all_head, all_tail, all-at}
 use Rattle.table_test.proofs.Laws.ModelTest.{zeros-are}
 use Rattle.table_test.proofs.Laws.RowsTest.{every-at}
 
@@ -43,6 +42,61 @@ rest-is s k = take_all (length s - k) (drop k s) (rw (length-drop k s) (omega ar
 pub row_within : (i n w : ℕ) → i < n → i * w + w ≤ n * w
 row_within i n w h = rw suc-mul at (mul-le-mul_right w h)
 
+-- before row i: each row before it passes
+pub record RowsLeft (k : Area) (s : List ℕ) (n w i : ℕ) : Type 0 where
+  pub width : w ≡ area_width k
+  pub few : n ≤ area_limit k
+  pub fits : n * w ≤ length s
+  pub left : all_of (row_passes k) (drop i (rows_in w n s)) ≡ all_of (row_passes k) (rows_in w n s)
+
+pub too_many : (k : Area) (n : ℕ) (s : List ℕ) → area_limit k < n → false ≡ area_passes k n s
+unfolding area_passes
+too_many k n s h = rw (lt-leb n (area_limit k) h)
+
+pub rows_start : (k : Area) (s : List ℕ) (n w : ℕ) → w ≡ area_width k → n ≤ area_limit k → length s ≡ area_limit k * area_width k → RowsLeft k s n w 0
+rows_start k s n w e few size =
+    record { width = e; few = few; fits = rw (e, size) (mul-le-mul_right (area_width k) few); left = refl }
+
+module _ (k : Area) (s : List ℕ) (n w i : ℕ) (l : RowsLeft k s n w i) where
+  lent_row : i < n → get_or (rows_in w n s) i [] ≡ between (i * w) (i * w + w) s
+  lent_row h = row-at w n i s h ∙ ap (λ (j : ℕ). take j (drop (i * w) s)) (sym (add-sub_cancel_left (i * w) w))
+
+  pub row-wide : i < n → length (between (i * w) (i * w + w) s) ≡ area_width k
+  row-wide h =
+      let m = row_within i n w h in
+      let f = l.fits in
+      ap (λ (j : ℕ). length (take j (drop (i * w) s))) (add-sub_cancel_left (i * w) w)
+      ∙ length-take-le w (drop (i * w) s) (rw (length-drop (i * w) s) (omega arith))
+      ∙ l.width
+
+  pub rows_more : i < n → row_passes k (between (i * w) (i * w + w) s) ≡ true → RowsLeft k s n w (i + 1)
+  rows_more h e =
+      record {
+        width = l.width;
+        few = l.few;
+        fits = l.fits;
+        left = all_more (row_passes k) (rows_in w n s) i [] (rw (row_count_lem w n s) h) (ap (row_passes k) (lent_row h) ∙ e) ∙ l.left;
+      }
+
+  pub rows-stop : i < n → row_passes k (between (i * w) (i * w + w) s) ≡ false → false ≡ area_passes k n s
+  unfolding area_passes
+  rows-stop h e =
+      let f : all_of (row_passes k) (rows_in w n s) ≡ false =
+      sym l.left ∙ all-stop (row_passes k) (rows_in w n s) i [] (rw (row_count_lem w n s) h) (ap (row_passes k) (lent_row h) ∙ e)
+      in
+      sym (and-false (leb n (area_limit k)))
+      ∙ ap (λ (b : Bool). leb n (area_limit k) && (b && all_of is_zero (drop (n * area_width k) s))) (sym f ∙ ap (λ (v : ℕ). all_of (row_passes k) (rows_in v n s)) l.width)
+
+  -- r tells whether the cells behind the rows are zero
+  pub rows_end : n ≤ i → (r : Bool) → r ≡ all_of is_zero (between (n * w) (length s) s) → r ≡ area_passes k n s
+  unfolding area_passes
+  rows_end h r e =
+      let f : all_of (row_passes k) (rows_in w n s) ≡ true = sym l.left ∙ all_end (row_passes k) (rows_in w n s) i (rw (row_count_lem w n s) h) in
+      let z : r ≡ all_of is_zero (drop (n * w) s) = e ∙ ap (all_of is_zero) (rest-is s (n * w)) in
+      rw (le-leb n (area_limit k) l.few, ← l.width, f) z
+
+-- ---- an area that passes
+
 drop-front : {A : Type 0} (n m : ℕ) (l : List A) → drop n (take (n + m) l) ≡ take m (drop n l)
 drop-front zero m l = rw (zero-add m)
 drop-front (suc n) m [] = rw (suc-add n m) (by m)
@@ -61,85 +115,6 @@ module _ {A : Type 0} (w : ℕ) (dec : List ℕ → A) where
       let e : suc n * w + k ≡ w + (n * w + k) = rw (suc-mul n w) (omega arith) in
       rw (e, take-take w (w + (n * w + k)) s (omega arith), drop-front w (n * w + k) s, rows-front n k (drop w s))
 
-pub too_many : (k : Area) (n : ℕ) (s : List ℕ) → area_limit k < n → false ≡ area_passes k n s
-unfolding area_passes
-too_many k n s h = rw (lt-leb n (area_limit k) h)
-
-pub some-width : (k : Area) → 0 < area_width k
-some-width Types = omega arith
-some-width Groups = omega arith
-some-width SubElements = omega arith
-some-width Files = omega arith
-some-width (Elements types) = omega arith
-some-width (Texts size) = omega arith
-some-width (Trees n) = omega arith
-some-width (Entries n) = omega arith
-
--- the cells of the n rows fit in the area
-pub rows_fit : (k : Area) (s : List ℕ) (n w : ℕ) → w ≡ area_width k → n ≤ area_limit k → length s ≡ area_limit k * area_width k → n * w ≤ length s
-rows_fit k s n w e few size = rw (e, size) (mul-le-mul_right (area_width k) few)
-
--- of n rows of an area s, those in r are left, and each row before them passes
-pub record RowsLeft (k : Area) (s : List ℕ) (n w : ℕ) (r : List ℕ) : Type 0 where
-  pub rows : ℕ
-  pub long : length r ≡ rows * w
-  pub left : all_of (row_passes k) (rows_in w rows r) ≡ all_of (row_passes k) (rows_in w n s)
-
-pub rows_start : (k : Area) (s : List ℕ) (n w : ℕ) → n * w ≤ length s → RowsLeft k s n w (take (n * w) s)
-rows_start k s n w fits =
-    record {
-      rows = n;
-      long = length-take-le (n * w) s fits;
-      left = ap (λ (l : List (List ℕ)). all_of (row_passes k) l) (rw add-zero at (rows-front w (λ (r : List ℕ). r) n 0 s));
-    }
-
-module _ (k : Area) (s : List ℕ) (n w : ℕ) (some : 0 < w) where
-  -- the first of the rows left
-  module _ (row r : List ℕ) (wide : length row ≡ w) (l : RowsLeft k s n w (row ++ r)) where
-    front : (m : ℕ) → length (row ++ r) ≡ m * w → (m' : ℕ) × (m ≡ suc m') × (length r ≡ m' * w)
-    front zero e = let z : length row + length r ≡ 0 = sym (length-append row r) ∙ e ∙ zero-mul w in absurd (omega (arith, wide))
-    front (suc m) e = let z : length row + length r ≡ w + m * w = sym (length-append row r) ∙ e ∙ rw (suc-mul m w) (omega arith) in (m, refl, omega (arith, wide))
-
-    first_row : (m : ℕ) → all_of (row_passes k) (rows_in w (suc m) (row ++ r)) ≡ all_of (row_passes k) (row ∷ rows_in w m r)
-    unfolding rows_of
-    first_row m =
-        let a : take w (row ++ r) ≡ row = ap (λ (i : ℕ). take i (row ++ r)) (sym wide) ∙ take-append_seam row r in
-        let b : drop w (row ++ r) ≡ r = ap (λ (i : ℕ). drop i (row ++ r)) (sym wide) ∙ drop-append_seam row r in
-        λ j. all_of (row_passes k) (a j ∷ rows_in w m (b j))
-
-    tested : {b : Bool} → row_passes k row ≡ b
-        → (m : ℕ) × (length r ≡ m * w) × (elim b [ true ↦ all_of (row_passes k) (rows_in w m r) | false ↦ false ] ≡ all_of (row_passes k) (rows_in w n s))
-    unfolding all_of
-    tested e =
-        let (m, is, long) = front l.rows l.long in
-        (m, long, rw (← e) (sym (first_row m) ∙ ap (λ (i : ℕ). all_of (row_passes k) (rows_in w i (row ++ r))) (sym is) ∙ l.left))
-
-    pub rows_more : row_passes k row ≡ true → RowsLeft k s n w r
-    rows_more e = let (m, long, left) = tested e in record { rows = m; long = long; left = left }
-
-    pub rows-stop : w ≡ area_width k → row_passes k row ≡ false → false ≡ area_passes k n s
-    unfolding area_passes
-    rows-stop width e =
-        let (m, long, f) = tested e in
-        sym (and-false (leb n (area_limit k)))
-        ∙ ap (λ (b : Bool). leb n (area_limit k) && (b && all_of is_zero (drop (n * area_width k) s))) (f ∙ ap (λ (v : ℕ). all_of (row_passes k) (rows_in v n s)) width)
-
-  -- less than a row is left; b tells whether the cells behind the rows are zero
-  pub rows_end : (r : List ℕ) → RowsLeft k s n w r → length r < w → w ≡ area_width k → n ≤ area_limit k
-      → (b : Bool) → b ≡ all_of is_zero (between (n * w) (length s) s) → b ≡ area_passes k n s
-  unfolding area_passes all_of rows_of
-  rows_end r l h width few b e =
-      let f : all_of (row_passes k) (rows_in w n s) ≡ true = by l.rows l.long l.left in
-      let z : b ≡ all_of is_zero (drop (n * w) s) = e ∙ ap (all_of is_zero) (rest-is s (n * w)) in
-      rw (le-leb n (area_limit k) few, ← width, f) z
-    where
-      by : (m : ℕ) → length r ≡ m * w → all_of (row_passes k) (rows_in w m r) ≡ all_of (row_passes k) (rows_in w n s) → all_of (row_passes k) (rows_in w n s) ≡ true
-      by zero e j = sym j
-      by (suc m) e j = let z : length r ≡ w + m * w = e ∙ rw (suc-mul m w) (omega arith) in absurd (omega arith)
-
--- ---- an area that passes
-
-module _ {A : Type 0} (w : ℕ) (dec : List ℕ → A) where
   each_row : (t : List ℕ → Bool) (P : A → Type 0) → ((r : List ℕ) → length r ≡ w → t r ≡ true → P (dec r))
       → (n : ℕ) (s : List ℕ) → n * w ≤ length s → all_of t (rows_in w n s) ≡ true → Each P (rows_of w n dec s)
   unfolding rows_of
