@@ -16,8 +16,8 @@ fn same_cells(s: &[u64], t: &[u64]) -> bool
     ensures { result ≡ same_list s.now t.now }
 {
     let mut same = true;
-    for (x, y) in s.iter().zip(t) {
-        same = same & (*x == *y);
+    for j in 0..s.len() {
+        same = same & (s[j] == t[j]);
     }
     same
 }

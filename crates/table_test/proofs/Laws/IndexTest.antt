@@ -1,7 +1,6 @@
 -- The test of an index: its cells compared, its rows' buckets from their cells, and the index that passes. Assumes nothing.
 use mathlib.Core.Bool.{Bool, true, ◌&&◌, and-true}
-use mathlib.Core.List.{List, [], ◌∷◌, ◌++◌, append-nil}
-use mathlib.Core.Logic.{◌⊎◌, inl, inr}
+use mathlib.Core.List.{List, ◌++◌, append-nil}
 use mathlib.Core.Path.{◌≡◌, sym, ap, ◌∙◌}
 use Prim.Native.Nat.{ℕ, ◌+◌, ◌*◌, ◌≤◌, ◌<◌}
 use native.Mathlib.Nat.{zero-add, add-zero}
@@ -20,25 +19,25 @@ use Rattle.tables.specs.declared.index.Index.{Index}
 use Rattle.tables.specs.declared.index.Index.TheVariants.{Groups, Names, Paths}
 use Rattle.tables.proofs.Laws.Cells.{length-rows_of, get_d-rows_of}
 use Rattle.tables.proofs.Laws.Lists.{same_lists}
-use Rattle.tables.proofs.Laws.Scans.{and-all}
+use Rattle.tables.proofs.Laws.Scans.{drop-next, and-all}
 use Rattle.tables.proofs.Laws.SchemaTable.{wide-group, wide_row, index_area}
 use Rattle.table_test.specs.SchemaTest.{path_bucket_at, name_bucket_at, index_tests, index_passes, Counted}
 use Rattle.table_test.specs.RowTests.{every}
 use Rattle.table_test.proofs.Laws.RowsTest.{every-at}
 
--- ---- two lists of one length, b being the answer for the cells before those left
+-- ---- two lists of one length, b being the answer for the cells before j
 
-pub same_more : (b : Bool) (x y : ℕ) (s w : List ℕ) → (b && eqb x y) && same_list s w ≡ b && same_list (x ∷ s) (y ∷ w)
-unfolding same_list
-same_more b x y s w = and-all b (eqb x y) (same_list s w)
+module _ (b : Bool) (s w : List ℕ) (j : ℕ) (k : length s ≡ length w) where
+  pub same_more : j < length s
+      → (b && eqb (get_or s j 0) (get_or w j 0)) && same_list (drop (j + 1) s) (drop (j + 1) w) ≡ b && same_list (drop j s) (drop j w)
+  unfolding same_list
+  same_more h =
+      rw (drop-next s j 0 h, drop-next w j 0 (omega arith), same_list)
+      (and-all b (eqb (get_or s j 0) (get_or w j 0)) (same_list (drop (j + 1) s) (drop (j + 1) w)))
 
-pub same_end : (b : Bool) (s w : List ℕ) → length s ≡ length w → (s ≡ []) ⊎ (w ≡ []) → b ≡ b && same_list s w
-unfolding same_list
-same_end b [] [] k h = sym (and-true b)
-same_end b [] (y ∷ w) k h = absurd (omega arith)
-same_end b (x ∷ s) [] k h = absurd (omega arith)
-same_end b (x ∷ s) (y ∷ w) k (inl e) = let z = ap length e in absurd (omega arith)
-same_end b (x ∷ s) (y ∷ w) k (inr e) = let z = ap length e in absurd (omega arith)
+  pub same_end : length s ≤ j → b ≡ b && same_list (drop j s) (drop j w)
+  unfolding same_list
+  same_end h = rw (drop_of_length-le s {i = j} h, drop_of_length-le w {i = j} (omega arith)) (sym (and-true b))
 
 -- ---- what the table says, each area from its place
 

@@ -1,11 +1,9 @@
 use mathlib.Core.Bool.{◌&&◌}
 use mathlib.Core.Path.{◌≡◌}
-use lib.ListN.{length}
+use lib.ListN.{drop}
 use Rattle.tables.specs.Lists.{same_list}
 use Rattle.table_test.proofs.index_test.same_cells.Given as goal
 
--- the cells so far are the same, and those left are, where all are; as many are left of each
-abbrev pub invariant-loop-x : goal.invariant-loop-x
-invariant-loop-x l =
-    (l.same && same_list l.x-iterator.a.rest.now l.x-iterator.b.rest.now ≡ same_list l.s l.t)
-    × (length l.x-iterator.a.rest.now ≡ length l.x-iterator.b.rest.now)
+-- the cells before j are the same, and those from j on are, where all are
+abbrev pub invariant-loop-j : goal.invariant-loop-j
+invariant-loop-j l = l.same && same_list (drop l.j l.s) (drop l.j l.t) ≡ same_list l.s l.t
