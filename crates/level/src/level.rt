@@ -64,13 +64,7 @@ fn is_bare(model: &[u64], a: Element, b: Element, depth: usize) -> bool
     requires b_bound { b.0 < count_of (model_of model.now) }
     ensures { result ≡ true → Bare depth (model_of model.now) a.0 b.0 }
 {
-    if depth == 0 {
-        return false;
-    }
-    if !is_leaf(model, a) {
-        return false;
-    }
-    is_leaf(model, b)
+    depth != 0 && is_leaf(model, a) && is_leaf(model, b)
 }
 
 // An A-only element without a set gets the level's files.

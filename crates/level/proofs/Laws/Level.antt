@@ -1,5 +1,4 @@
 -- Level and Pairs on the lent tables. Assumes nothing.
-use mathlib.Core.Bool.{false≢true}
 use mathlib.Core.List.{List, [], ◌∷◌}
 use mathlib.Core.Option.{Option, none, some}
 use mathlib.Core.Path.{◌≡◌, refl, sym, ap, ◌∙◌}
@@ -7,7 +6,7 @@ use Prim.Native.Nat.{ℕ, suc, ◌+◌, ◌-◌, ◌*◌, ◌≤◌, ◌<◌}
 use native.Mathlib.Omega.{arith}
 use lib.ListN.{length, get_or, take}
 use lib.Seq.{get_or-take}
-use Rattle.std.specs.Prelude.{true, Result, Ok, Err, is_ok}
+use Rattle.std.specs.Prelude.{Result, Ok, Err}
 use Rattle.tables.specs.Limits.{item_limit, version_limit}
 use Rattle.tables.specs.ElementsTable.{elements_of}
 use Rattle.tables.specs.ModelTable.{item_is, count_of, model_of, GoodModel}
@@ -164,10 +163,6 @@ plan-rows n q w r h e = rw e at h
 
 -- ---- one pair
 
-pub ok-done : (o : Result (Unit {0}) Halt) → is_ok o ≡ true → o ≡ Ok tt
-ok-done (Ok tt) e = refl
-ok-done (Err h) e = absurd (false≢true e)
-
 -- its level's answer, with the state that it left
 module _ (lower : FileSet → Element → Element → State → Outcome) (x : Fixed) (f : FileNumber) (v : Version) (p : Element) (files : FileSet) (q : Pair) (s : State)
     (own : FileSet) (mark : ℕ) (files-own : own ≡ files_of_pair files s.model q.a) (marked : mark ≡ length s.log)
@@ -200,20 +195,6 @@ module _ (lower : FileSet → Element → Element → State → Outcome) (deck s
     pub keeps : KeepsState m₀ l₀ m l
     pub left : merge_sub_elements lower (fixed_in deck schema elements) f v p files (spread (pair_in w₀) i (na - i)) (state_in m l)
         ≡ merge_sub_elements lower (fixed_in deck schema elements) f v p files (plan_in na 0 w₀).pairs (state_in m₀ l₀)
-
-  pub pairs_start : StateOver elements m₀ l₀ → PairsLeft w₀ m₀ l₀ 0
-  pairs_start s =
-      let e : na - 0 ≡ na = omega arith in
-      record {
-        within = omega arith;
-        front = refl;
-        size = refl;
-        model_size = refl;
-        log_size = refl;
-        fits = s;
-        keeps = λ n texts q. q;
-        left = rw e;
-      }
 
 module _ {lower : FileSet → Element → Element → State → Outcome} {deck schema elements : List ℕ} {f : FileNumber} {v : Version} {p : Element} {files : FileSet}
     {na : ℕ} {w₀ m₀ l₀ w m l : List ℕ} {i : ℕ} (k : PairsLeft lower deck schema elements f v p files na w₀ m₀ l₀ w m l i) where

@@ -8,10 +8,9 @@ use lib.Dec.{eqb}
 use Rattle.std.specs.Prelude.{Result, Ok}
 use Rattle.tables.specs.FileSets.{no_set}
 use Rattle.tables.specs.Limits.{item_limit}
-use Rattle.tables.specs.ModelTable.{count_of, model_of, GoodModel}
+use Rattle.tables.specs.ModelTable.{count_of, model_of}
 use Rattle.tables.specs.Records.{Element, FileNumber, FileSet, Version, State, Fixed, set_of}
-use Rattle.table_test.specs.Fits.{LogFits, StateFits, KeepsState}
-use Rattle.table_test.proofs.Laws.Fits.{good-fits}
+use Rattle.table_test.specs.Fits.{StateFits, KeepsState}
 use Rattle.state_test.specs.StateTest.{state_in}
 use Rattle.deck.specs.Schema.{version_of}
 use Rattle.merge_rules.specs.Import.{import_new_items}
@@ -19,7 +18,7 @@ use Rattle.merge_rules.specs.Level.{restrict_elements}
 use Rattle.merge_rules.specs.Log.{restrict}
 use Rattle.merge_rules.specs.Pairing.{Plan}
 use Rattle.merge_rules.specs.Refusals.{Outcome, done, ◌>>=◌}
-use Rattle.pairing.specs.Plans.{spread, restriction_in, row_element, row_value, RowsIn}
+use Rattle.pairing.specs.Plans.{spread, restriction_in, row_element, row_value}
 use Rattle.pairing.proofs.Laws.Spreads.{spread-here, spread-done}
 use Rattle.pairing.proofs.Laws.Rows.{restricted, not-restricted}
 use Rattle.merge_log.specs.Answers.{outcome_is}
@@ -60,52 +59,43 @@ module _ (w : List ℕ) (na : ℕ) (files : FileSet) (m₀ l₀ : List ℕ) wher
     pub left : restrict_elements files (spread (restriction_in w) i (na - i)) (state_in m l)
         ≡ restrict_elements files (spread (restriction_in w) 0 na) (state_in m₀ l₀)
 
-  pub restricts-start : GoodModel m₀ → LogFits (count_of (model_of m₀)) l₀ → RestrictsLeft m₀ l₀ 0
-  restricts-start g h =
-      let e : na - 0 ≡ na = omega arith in
-      record { within = omega arith; fits = record { model_fits = good-fits m₀ g; log_fits = h }; keeps = λ n texts s. s; left = rw e }
+module _ {w : List ℕ} {na : ℕ} {files : FileSet} {m₀ l₀ m l : List ℕ} {i : ℕ} (k : RestrictsLeft w na files m₀ l₀ m l i) where
+  pub restricts-end : na ≤ i → done (state_in m l) ≡ restrict_elements files (spread (restriction_in w) 0 na) (state_in m₀ l₀)
+  unfolding restrict_elements
+  restricts-end h = sym (rw (spread-done (restriction_in w) i na h)) ∙ k.left
 
-  module _ (m l : List ℕ) (i : ℕ) (k : RestrictsLeft m l i) where
-    pub restricts-end : na ≤ i → done (state_in m l) ≡ restrict_elements files (spread (restriction_in w) 0 na) (state_in m₀ l₀)
-    unfolding restrict_elements
-    restricts-end h = sym (rw (spread-done (restriction_in w) i na h)) ∙ k.left
+  module _ (h : i < na) where
+    -- a paired one
+    pub restricts-skip : (row_value w i ≡ 0 → ⊥) → RestrictsLeft w na files m₀ l₀ m l (i + 1)
+    restricts-skip n =
+        record {
+          within = omega arith;
+          fits = k.fits;
+          keeps = k.keeps;
+          left = sym (rw (spread-here (restriction_in w) i na h, not-restricted (row_element w i) (row_value w i) n)) ∙ k.left;
+        }
 
-    -- the element of the row
-    pub restricts-element : RowsIn (count_of (model_of m₀)) w na 0 → i < na → row_element w i < count_of (model_of m)
-    restricts-element rows h = rw k.fits.model_fits.same (rows.element i (omega arith))
+    -- an A-only one, with the answer of its restriction and the tables that it left
+    module _ (none : row_value w i ≡ 0) (m' l' : List ℕ) (o : Result (Unit {0}) Halt)
+        (is : outcome_is o (state_in m' l') ≡ restrict_new files (row_element w i) (state_in m l)) where
+      here : restrict_elements files (spread (restriction_in w) i (na - i)) (state_in m l)
+          ≡ (restrict_new files (row_element w i) (state_in m l) >>= restrict_elements files (spread (restriction_in w) (i + 1) (na - (i + 1))))
+      here =
+          rw (spread-here (restriction_in w) i na h, restricted (row_element w i) (row_value w i) none)
+          (restrict-cons files (row_element w i) (spread (restriction_in w) (i + 1) (na - (i + 1))) (state_in m l))
 
-    module _ (h : i < na) where
-      -- a paired one
-      pub restricts-skip : (row_value w i ≡ 0 → ⊥) → RestrictsLeft m l (i + 1)
-      restricts-skip n =
+      pub restricts-stop : (o ≡ Ok tt → ⊥)
+          → outcome_is o (state_in m' l') ≡ restrict_elements files (spread (restriction_in w) 0 na) (state_in m₀ l₀)
+      restricts-stop t = then-stop (state_in m' l') _ o is t ∙ sym here ∙ k.left
+
+      pub restricts-more : o ≡ Ok tt → KeepsState m l m' l' → RestrictsLeft w na files m₀ l₀ m' l' (i + 1)
+      restricts-more d kept =
           record {
             within = omega arith;
-            fits = k.fits;
-            keeps = k.keeps;
-            left = sym (rw (spread-here (restriction_in w) i na h, not-restricted (row_element w i) (row_value w i) n)) ∙ k.left;
+            fits = kept _ _ k.fits;
+            keeps = λ n texts q. kept n texts (k.keeps n texts q);
+            left = sym (then-done (state_in m' l') _ o is d) ∙ sym here ∙ k.left;
           }
-
-      -- an A-only one, with the answer of its restriction and the tables that it left
-      module _ (none : row_value w i ≡ 0) (m' l' : List ℕ) (o : Result (Unit {0}) Halt)
-          (is : outcome_is o (state_in m' l') ≡ restrict_new files (row_element w i) (state_in m l)) where
-        here : restrict_elements files (spread (restriction_in w) i (na - i)) (state_in m l)
-            ≡ (restrict_new files (row_element w i) (state_in m l) >>= restrict_elements files (spread (restriction_in w) (i + 1) (na - (i + 1))))
-        here =
-            rw (spread-here (restriction_in w) i na h, restricted (row_element w i) (row_value w i) none)
-            (restrict-cons files (row_element w i) (spread (restriction_in w) (i + 1) (na - (i + 1))) (state_in m l))
-
-        pub restricts-stop : (o ≡ Ok tt → ⊥)
-            → outcome_is o (state_in m' l') ≡ restrict_elements files (spread (restriction_in w) 0 na) (state_in m₀ l₀)
-        restricts-stop t = then-stop (state_in m' l') _ o is t ∙ sym here ∙ k.left
-
-        pub restricts-more : o ≡ Ok tt → KeepsState m l m' l' → RestrictsLeft m' l' (i + 1)
-        restricts-more d kept =
-            record {
-              within = omega arith;
-              fits = kept _ _ k.fits;
-              keeps = λ n texts q. kept n texts (k.keeps n texts q);
-              left = sym (then-done (state_in m' l') _ o is d) ∙ sym here ∙ k.left;
-            }
 
 -- ---- and then the imports
 

@@ -1,4 +1,4 @@
-use mathlib.Core.Path.{◌≡◌, sym, ◌∙◌}
+use mathlib.Core.Path.{◌≡◌, ◌∙◌}
 use Prim.Native.Nat.{◌-◌, ◌*◌}
 use native.Mathlib.Omega.{arith}
 use borrow.Author.Rules.{rules}
@@ -9,7 +9,7 @@ use Rattle.tables.specs.ModelTable.{model_of}
 use Rattle.pairing.specs.declared.plan.Unplanned.TheVariants.{UsedTwice}
 use Rattle.tables.specs.SetCells.{set_is}
 use Rattle.state_test.specs.StateTest.{state_in}
-use Rattle.level.proofs.Laws.Level.{ok-done, level-version-is, pair-version-is, level-version-low, level-none, level-twice, level-stuck, level-stop, level-pairs, room_most, rows-first, plan-rows, pair-settled, pair-done, pair-bare, pairs_end, first-in, mate-in, pairs-skip, pairs-stop, pairs-more}
+use Rattle.level.proofs.Laws.Level.{level-version-is, pair-version-is, level-version-low, level-none, level-twice, level-stuck, level-stop, level-pairs, room_most, rows-first, plan-rows, pair-settled, pair-done, pair-bare, pairs_end, first-in, mate-in, pairs-skip, pairs-stop, pairs-more}
 use Rattle.level.proofs.level.+levels.Goals as goal
 
 pub merge_apart-merge_element-requires : goal.merge_apart-merge_element-requires
@@ -73,7 +73,7 @@ merge_pair-extend_pair-requires-then-is_ok t c =
     let state = c.merge_element-below.ensures.keeps_state _ _ c.requires.state_over in record { good_model = state.model_fits.good; good_log = state.log_fits.good; a_bound = rw state.model_fits.same c.requires.a_in_bounds; f_lt_file_limit = c.requires.f_lt_file_limit }
 
 pub merge_pair-returns-then-is_ok : goal.merge_pair-returns-then-is_ok
-merge_pair-returns-then-is_ok t c = record { log_after = c.extend_pair-then-is_ok.ensures.log_after ∙ pair-done _ _ _ _ _ _ _ _ (set_is c.files_of_pair-own.result) c.log_length-mark.result c.files_of_pair-own.ensures c.log_length-mark.ensures (state_in c.merge_element-below.new.model c.merge_element-below.new.log) c.merge_element-below.result c.merge_element-below.ensures.log_after (ok-done _ (sym c.is_ok.ensures.value ∙ c.if-is_ok.true)); keeps_state = λ n texts q. c.extend_pair-then-is_ok.ensures.keeps_state n texts (c.merge_element-below.ensures.keeps_state n texts q) }
+merge_pair-returns-then-is_ok t c = record { log_after = c.extend_pair-then-is_ok.ensures.log_after ∙ pair-done _ _ _ _ _ _ _ _ (set_is c.files_of_pair-own.result) c.log_length-mark.result c.files_of_pair-own.ensures c.log_length-mark.ensures (state_in c.merge_element-below.new.model c.merge_element-below.new.log) c.merge_element-below.result c.merge_element-below.ensures.log_after (search rules); keeps_state = λ n texts q. c.extend_pair-then-is_ok.ensures.keeps_state n texts (c.merge_element-below.ensures.keeps_state n texts q) }
 
 pub merge_pair-settle-requires-clause-state_over : goal.merge_pair-settle-requires-clause-state_over
 merge_pair-settle-requires-clause-state_over t c =

@@ -16,6 +16,3 @@ pub overflow_add-result : goal.overflow_add-result
 overflow_add-result c =
     let room = room_most c.args.model.now c.requires.good_model c.args.a.0 c.args.b.0 c.requires.a_bound c.requires.b_bound in
     record { fits = omega (arith, c.list_length.ensures, c.list_length-2.ensures) }
-
-pub returns : goal.returns
-returns c = omega (arith, c.list_length.ensures, c.list_length-2.ensures)
