@@ -181,7 +181,7 @@ pub fn merge_apart(
     )
 }
 
-// Level: b is merged into a, by its plan: restrictions and imports, then pairs. At depth 0, where no listed element is, refusal 6.
+// Level: b is merged into a, by its plan: restrictions and imports, then pairs. At depth 0, where no listed element is, refusal 6. The answer of the pairs goes through `?`, so that the usual one, Ok, is not copied.
 #[cycle(levels)]
 fn merge_element(
     deck: &[u8],
