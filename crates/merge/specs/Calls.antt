@@ -1,29 +1,39 @@
 -- What the answers of the calls stand for in the rules. Assumes nothing.
-use Rattle.std.specs.Prelude.{List, ◌≡◌, ℕ, ◌+◌, ◌<◌}
+use Rattle.std.specs.Prelude as program
+use Rattle.std.specs.Prelude.{Some, None, Result, Ok, Err, List, ◌≡◌, ℕ, ◌+◌, ◌<◌}
 use Rattle.std.proofs.Math.Option.{Option, none, some}
 use Rattle.tables.specs.Limits.{file_limit}
 use Rattle.tables.specs.Records.{FileNumber, Tree}
+use Rattle.tables.specs.declared.numbers.Element.{Element}
 use Rattle.merge_rules.specs.Calls as rules
 use Rattle.merge_rules.specs.Calls.{range_refused, merged, merge_refused, taken_off, rollback_refused, counts_of, entries_above}
-use Rattle.merge_rules.specs.Refusals.{Outcome, done, conflict, refused, unmergeable}
+use Rattle.merge_rules.specs.Refusals.{Refusal, Outcome, done, conflict, refused, unmergeable}
 use Rattle.merge_rules.specs.TableCalls.{CallAnswer, bad_tables, answered, CallResult, encoded_result}
 use Rattle.merge_log.specs.Answers.{refusal_is}
-use Rattle.merge.specs.declared.calls.RangeAnswer.{RangeAnswer}
-use Rattle.merge.specs.declared.calls.RangeAnswer.TheVariants.{Places, Refused, BadTables}
-use Rattle.merge.specs.declared.calls.MergeAnswer.{MergeAnswer}
-use Rattle.merge.specs.declared.calls.MergeAnswer.TheVariants.{Merged, Refused as MergeRefused, BadTables as MergeBadTables}
-use Rattle.merge.specs.declared.calls.RollbackAnswer.{RollbackAnswer}
-use Rattle.merge.specs.declared.calls.RollbackAnswer.TheVariants.{TakenOff, Refused as RollbackRefused, BadTables as RollbackBadTables}
+use Rattle.merge_log.specs.declared.refusals.Refusal as refusals
+use Rattle.merge_log.specs.declared.refusals.Refusal.TheVariants.{Unmergeable}
+use Rattle.merge_log.specs.declared.refusals.Halt.{Halt}
+use Rattle.merge_log.specs.declared.refusals.Halt.TheVariants.{Conflict, Refused as HaltRefused}
+use Rattle.insert_range.specs.declared.range.Bounds.{Bounds}
+use Rattle.merge.specs.declared.calls.CallError.{CallError}
+use Rattle.merge.specs.declared.calls.CallError.TheVariants.{BadTables, Refused}
 use Rattle.merge.specs.declared.counts.Counts.{Counts}
-use Rattle.merge.specs.declared.tree.Waiting.{Waiting}
-use Rattle.merge.specs.declared.tree.Waiting.TheVariants.{Root, Missing}
+
+-- the refusal that a merge ends with, where a step of it is not done
+abbrev pub halt_refusal : Halt → refusals.Refusal
+halt_refusal (Conflict e) = Unmergeable e
+halt_refusal (HaltRefused r) = r
+
+-- why a call is not done, where the operation's answer is made of a refusal
+abbrev pub call_error_is : {A : Type 0} → (Refusal → A) → CallError → CallAnswer A
+call_error_is answer BadTables = bad_tables
+call_error_is answer (Refused r) = answered (answer (refusal_is r))
 
 -- ---- range
 
-abbrev pub range_answer_is : RangeAnswer → CallAnswer rules.RangeAnswer
-range_answer_is (Places first last) = answered (rules.range_is first last)
-range_answer_is (Refused r) = answered (range_refused (refusal_is r))
-range_answer_is BadTables = bad_tables
+abbrev pub range_answer_is : Result Bounds CallError → CallAnswer rules.RangeAnswer
+range_answer_is (Ok b) = answered (rules.range_is b.first b.last)
+range_answer_is (Err e) = call_error_is range_refused e
 
 -- ---- merge
 
@@ -43,13 +53,12 @@ pub record CountsBelow (n : ℕ) (c : Counts) : Type 0 where
   pub restrictions : c.restrictions < n
   pub extensions : c.extensions < n
 
-abbrev pub merge_answer_is : MergeAnswer → CallAnswer rules.MergeAnswer
-merge_answer_is (Merged c) = answered (merged (counts_is c))
-merge_answer_is (MergeRefused r) = answered (merge_refused (refusal_is r))
-merge_answer_is MergeBadTables = bad_tables
+abbrev pub merge_answer_is : Result Counts CallError → CallAnswer rules.MergeAnswer
+merge_answer_is (Ok c) = answered (merged (counts_is c))
+merge_answer_is (Err e) = call_error_is merge_refused e
 
 -- the answer, with the tables that the call left
-abbrev pub merge_result : MergeAnswer → List ℕ → List ℕ → CallResult rules.MergeAnswer
+abbrev pub merge_result : Result Counts CallError → List ℕ → List ℕ → CallResult rules.MergeAnswer
 merge_result r model log = record { answer = merge_answer_is r; model = model; log = log }
 
 abbrev pub encoded_merge : rules.Merged → CallResult rules.MergeAnswer
@@ -65,26 +74,25 @@ concluded old_model old_log mark model log (refused r) = record { answer = answe
 
 -- ---- waiting trees
 
-abbrev pub waiting_is : FileNumber → Waiting → Option Tree
-waiting_is f (Root e) = some (record { file = f; root = e.0 })
-waiting_is f Missing = none
+abbrev pub waiting_is : FileNumber → program.Option Element → Option Tree
+waiting_is f (Some e) = some (record { file = f; root = e.0 })
+waiting_is f None = none
 
-abbrev pub WaitingIn : ℕ → FileNumber → Waiting → Type 0
-WaitingIn n f (Root e) = (f < file_limit) × (e.0 < n)
-WaitingIn n f Missing = Unit {0}
+abbrev pub WaitingIn : ℕ → FileNumber → program.Option Element → Type 0
+WaitingIn n f (Some e) = (f < file_limit) × (e.0 < n)
+WaitingIn n f None = Unit {0}
 
 -- r is the rule's tree of the file, its root one of n elements
-pub record FindsTree (n : ℕ) (f : FileNumber) (r : Waiting) (o : Option Tree) : Type 0 where
+pub record FindsTree (n : ℕ) (f : FileNumber) (r : program.Option Element) (o : Option Tree) : Type 0 where
   pub is : waiting_is f r ≡ o
   pub within : WaitingIn n f r
 
 -- ---- rollback
 
-abbrev pub rollback_answer_is : RollbackAnswer → CallAnswer rules.RollbackAnswer
-rollback_answer_is (TakenOff n) = answered (taken_off n)
-rollback_answer_is (RollbackRefused r) = answered (rollback_refused (refusal_is r))
-rollback_answer_is RollbackBadTables = bad_tables
+abbrev pub rollback_answer_is : Result ℕ CallError → CallAnswer rules.RollbackAnswer
+rollback_answer_is (Ok n) = answered (taken_off n)
+rollback_answer_is (Err e) = call_error_is rollback_refused e
 
 -- the answer, with the tables that the call left
-abbrev pub rollback_result : RollbackAnswer → List ℕ → List ℕ → CallResult rules.RollbackAnswer
+abbrev pub rollback_result : Result ℕ CallError → List ℕ → List ℕ → CallResult rules.RollbackAnswer
 rollback_result r model log = record { answer = rollback_answer_is r; model = model; log = log }

@@ -12,10 +12,10 @@ ghost use Rattle.merge.specs.Calls.{range_answer_is, merge_result, rollback_resu
 ghost use Rattle.insert_range.specs.Range.{range_is};
 
 use crate::counts::{Counts, counts_above};
-use crate::tree::{Waiting, merge_tree, waiting_tree};
-use insert_range::range::{Range, calc_element_insert_range};
+use crate::tree::{merge_tree, waiting_tree};
+use insert_range::range::{Bounds, Unplaced, calc_element_insert_range};
 use merge_log::log::{is_mark, rollback_merge};
-use merge_log::refusals::{Outcome, Refusal};
+use merge_log::refusals::{Halt, Refusal};
 use state_test::state::lent_tables_pass;
 use tables::elements::{element_count, element_type};
 use tables::limits::VERSION_LIMIT;
@@ -24,27 +24,54 @@ use tables::model::MODEL_SIZE;
 use tables::numbers::{Element, FileNumber, Name};
 use tables::schema::type_mode;
 
-// The first and last place; a refusal; refusal 0.
-#[derive(Clone, Copy)]
-pub enum RangeAnswer {
-    Places(usize, usize),
-    Refused(Refusal),
+// Why a call is not done: refusal 0, or a refusal of its operation.
+#[derive(Clone, Copy, PartialEq, Eq)]
+pub enum CallError {
     BadTables,
+    Refused(Refusal),
+}
+
+impl From<Refusal> for CallError {
+    ghost use Rattle.std.specs.Prelude.{◌≡◌};
+    ghost use Rattle.merge.specs.declared.calls.CallError.TheVariants.{Refused};
+
+    ghost from_gives = { λ r e. e ≡ Refused r };
+
+    fn from(r: Refusal) -> CallError {
+        CallError::Refused(r)
+    }
+}
+
+// A conflict that a merge comes to is refusal 6 at the element whose list it arose in.
+impl From<Halt> for CallError {
+    ghost use Rattle.std.specs.Prelude.{◌≡◌};
+    ghost use Rattle.merge.specs.declared.calls.CallError.TheVariants.{Refused};
+    ghost use Rattle.merge.specs.Calls.{halt_refusal};
+
+    ghost from_gives = { λ h e. e ≡ Refused (halt_refusal h) };
+
+    fn from(h: Halt) -> CallError {
+        match h {
+            Halt::Conflict(e) => CallError::Refused(Refusal::Unmergeable(e)),
+            Halt::Refused(r) => CallError::Refused(r),
+        }
+    }
 }
 
 const CHARACTERS: u64 = 4;
 
-fn range_answer(e: Element, n: Name, r: Range) -> RangeAnswer
+#[tactic(auto, unfolding(merge_rules::specs::Calls::range_answer))]
+fn range_answer(e: Element, n: Name, r: Result<Bounds, Unplaced>) -> Result<Bounds, CallError>
     ensures { range_answer_is result ≡ answered (range_answer e.0 n.0 (range_is r)) }
 {
     match r {
-        Range::Places(first, last) => RangeAnswer::Places(first, last),
-        Range::NoRow => RangeAnswer::Refused(Refusal::NotInVersion(e, n)),
-        Range::Conflicting => RangeAnswer::Refused(Refusal::NoPlace(e)),
+        Ok(bounds) => Ok(bounds),
+        Err(Unplaced::NoRow) => Err(CallError::Refused(Refusal::NotInVersion(e, n))),
+        Err(Unplaced::Conflicting) => Err(CallError::Refused(Refusal::NoPlace(e))),
     }
 }
 
-// Where an element of this name may stand in the list of this element, in this version.
+// Where an element of this name may stand in the list of this element, in this version: the first and last place.
 pub fn range(
     deck: &[u8],
     schema: &[u64],
@@ -54,55 +81,26 @@ pub fn range(
     element: u64,
     name: u64,
     version: u64,
-) -> RangeAnswer
+) -> Result<Bounds, CallError>
     ensures { range_answer_is result ≡ range_call deck.now schema.now elements.now model.now log.now element name version }
 {
     if !lent_tables_pass(deck, schema, elements, model, log) {
-        return RangeAnswer::BadTables;
+        return Err(CallError::BadTables);
     }
     if element_count(elements) as u64 <= element {
-        return RangeAnswer::Refused(Refusal::NoSuchElement);
+        return Err(CallError::Refused(Refusal::NoSuchElement));
     }
     if VERSION_LIMIT <= version {
-        return RangeAnswer::Refused(Refusal::NoSuchElement);
+        return Err(CallError::Refused(Refusal::NoSuchElement));
     }
     let e = Element(element as usize);
     let t = element_type(elements, e);
     if type_mode(schema, t) == CHARACTERS {
-        return RangeAnswer::Refused(Refusal::CharactersParent(e));
+        return Err(CallError::Refused(Refusal::CharactersParent(e)));
     }
     let n = Name(name);
     let r = calc_element_insert_range(schema, elements, model, e, n, version);
     range_answer(e, n, r)
-}
-
-// The three counts; a refusal; refusal 0.
-#[derive(Clone, Copy)]
-pub enum MergeAnswer {
-    Merged(Counts),
-    Refused(Refusal),
-    BadTables,
-}
-
-// The number of entries taken off; a refusal; refusal 0.
-#[derive(Clone, Copy)]
-pub enum RollbackAnswer {
-    TakenOff(usize),
-    Refused(Refusal),
-    BadTables,
-}
-
-// The table becomes equal to another of its length.
-pub fn copy(from: &[u64], to: &mut [u64])
-    requires { length from.now ≡ length to.old }
-    ensures { to.new ≡ from.now }
-{
-    let n = to.len();
-    let mut i: usize = 0;
-    while i < n {
-        to[i] = from[i];
-        i += 1;
-    }
 }
 
 // The counts of an accepted merge; the tables as they stood where it is refused.
@@ -112,21 +110,21 @@ fn conclude(
     model: &mut [u64],
     log: &mut [u64],
     mark: usize,
-    r: Outcome,
-) -> MergeAnswer
+    r: Result<(), Halt>,
+) -> Result<Counts, CallError>
     requires good_log { GoodLog log.old }
     requires old_model_len { length old_model.now ≡ length model.old }
     requires old_log_len { length old_log.now ≡ length log.old }
     ensures { merge_result result model.new log.new ≡ concluded old_model.now old_log.now mark model.old log.old (outcome_is r (state_in model.old log.old)) }
 {
-    let refusal = match r {
-        Outcome::Done => return MergeAnswer::Merged(counts_above(log, mark)),
-        Outcome::Conflict(e) => Refusal::Unmergeable(e),
-        Outcome::Refused(x) => x,
-    };
-    copy(old_model, model);
-    copy(old_log, log);
-    MergeAnswer::Refused(refusal)
+    match r {
+        Ok(()) => Ok(counts_above(log, mark)),
+        Err(halt) => {
+            model.copy_from_slice(old_model);
+            log.copy_from_slice(old_log);
+            Err(halt.into())
+        }
+    }
 }
 
 // The merge of the waiting tree of root b; a refused one leaves the tables as they stood.
@@ -138,7 +136,7 @@ fn merge_waiting(
     log: &mut [u64],
     f: FileNumber,
     b: Element,
-) -> MergeAnswer
+) -> Result<Counts, CallError>
     requires good_fixed { GoodFixed deck.now schema.now elements.now }
     requires state_over { StateOver elements.now model.old log.old }
     requires f_lt_file_limit { f.0 < file_limit }
@@ -148,14 +146,14 @@ fn merge_waiting(
 {
     let mut old_model = [0u64; MODEL_SIZE];
     let mut old_log = [0u64; LOG_SIZE];
-    copy(model, &mut old_model);
-    copy(log, &mut old_log);
+    old_model.copy_from_slice(model);
+    old_log.copy_from_slice(log);
     let mark = log_length(log);
     let r = merge_tree(deck, schema, elements, model, log, f, b);
     conclude(&old_model, &old_log, model, log, mark, r)
 }
 
-// The waiting tree of this file is merged into the model.
+// The waiting tree of this file is merged into the model; how many entries of each kind the log gained.
 pub fn merge(
     deck: &[u8],
     schema: &[u64],
@@ -163,20 +161,18 @@ pub fn merge(
     model: &mut [u64],
     log: &mut [u64],
     file: u64,
-) -> MergeAnswer
+) -> Result<Counts, CallError>
     ensures { merge_result result model.new log.new ≡ merge_call deck.now schema.now elements.now model.old log.old file }
 {
     let f = FileNumber(file);
     if !lent_tables_pass(deck, schema, elements, model, log) {
-        return MergeAnswer::BadTables;
+        return Err(CallError::BadTables);
     }
-    let Waiting::Root(b) = waiting_tree(elements, model, f) else {
-        return MergeAnswer::Refused(Refusal::NotWaiting);
-    };
+    let b = waiting_tree(elements, model, f).ok_or(Refusal::NotWaiting)?;
     merge_waiting(deck, schema, elements, model, log, f, b)
 }
 
-// The log goes back to this mark, and the model with it.
+// The log goes back to this mark, and the model with it; how many entries were taken off.
 pub fn rollback(
     deck: &[u8],
     schema: &[u64],
@@ -184,17 +180,17 @@ pub fn rollback(
     model: &mut [u64],
     log: &mut [u64],
     mark: u64,
-) -> RollbackAnswer
+) -> Result<usize, CallError>
     ensures { rollback_result result model.new log.new ≡ rollback_call deck.now schema.now elements.now model.old log.old mark }
 {
     if !lent_tables_pass(deck, schema, elements, model, log) {
-        return RollbackAnswer::BadTables;
+        return Err(CallError::BadTables);
     }
     if !is_mark(log, mark) {
-        return RollbackAnswer::Refused(Refusal::NoMark);
+        return Err(CallError::Refused(Refusal::NoMark));
     }
     let n = log_length(log);
     let m = mark as usize;
     rollback_merge(model, log, m, true);
-    RollbackAnswer::TakenOff(n - m)
+    Ok(n - m)
 }

@@ -15,28 +15,23 @@ pub struct Counts {
 }
 
 // One entry more.
+#[tactic(auto, unfolding(crate::specs::Calls::plus_counts, merge_rules::specs::Calls::counts_of, merge_rules::specs::Calls::is_import, merge_rules::specs::Calls::is_restriction, merge_rules::specs::Calls::is_extension, tables::specs::Lists::keep))]
 fn count_entry(c: Counts, a: Entry) -> Counts
     requires { CountsBelow log_limit c }
     ensures { counts_is result ≡ plus_counts (counts_is c) (counts_of (entry_is a ∷ [])) }
 {
-    let imports = c.imports;
-    let restrictions = c.restrictions;
-    let extensions = c.extensions;
     match a {
         Entry::Import(_, _, _, _) => Counts {
-            imports: imports + 1,
-            restrictions,
-            extensions,
+            imports: c.imports + 1,
+            ..c
         },
         Entry::Restriction(_, _) => Counts {
-            imports,
-            restrictions: restrictions + 1,
-            extensions,
+            restrictions: c.restrictions + 1,
+            ..c
         },
         Entry::Extension(_, _) => Counts {
-            imports,
-            restrictions,
-            extensions: extensions + 1,
+            extensions: c.extensions + 1,
+            ..c
         },
     }
 }
@@ -51,9 +46,7 @@ pub fn counts_above(log: &[u64], mark: usize) -> Counts
         restrictions: 0,
         extensions: 0,
     };
-    let mut i = log_length(log);
-    while mark < i {
-        i -= 1;
+    for i in (mark..log_length(log)).rev() {
         let a = entry_at(log, i);
         c = count_entry(c, a);
     }

@@ -16,44 +16,35 @@ ghost use Rattle.merge.specs.Calls.{FindsTree};
 
 use level::level::merge_apart;
 use merge_log::log::extend;
-use merge_log::refusals::Outcome;
+use merge_log::refusals::Halt;
 use schema_calls::files::version_of;
 use tables::elements::{tree_count, tree_file, tree_root};
 use tables::limits::DEPTH_LIMIT;
 use tables::model::set_of;
 use tables::numbers::{Element, FileNumber};
 
-// The root of a file's tree.
-#[derive(Clone, Copy)]
-pub enum Waiting {
-    Root(Element),
-    Missing,
-}
-
 const ROOT: Element = Element(0);
 
 const LEVELS: usize = DEPTH_LIMIT as usize + 1;
 
-// The first tree of the file.
-fn find_tree(elements: &[u64], f: FileNumber) -> Waiting
+// The root of the first tree of the file.
+fn find_tree(elements: &[u64], f: FileNumber) -> Option<Element>
     requires good_elements { GoodElements elements.now }
     requires each { Each (TreeIn (length (elements_of elements.now).names)) (elements_of elements.now).trees }
     ensures { FindsTree (length (elements_of elements.now).names) f.0 result (first_of (λ (t : Tree). eqb t.file f.0) (elements_of elements.now).trees) }
 {
     let n = tree_count(elements);
-    let mut i: usize = 0;
-    while i < n {
+    for i in 0..n {
         let g = tree_file(elements, i);
-        if g.0 == f.0 {
-            return Waiting::Root(tree_root(elements, i));
+        if g == f {
+            return Some(tree_root(elements, i));
         }
-        i += 1;
     }
-    Waiting::Missing
+    None
 }
 
-// A tree waits while its file is outside the root's set.
-pub fn waiting_tree(elements: &[u64], model: &[u64], f: FileNumber) -> Waiting
+// The root of the file's tree, which waits while the file is outside the root's set.
+pub fn waiting_tree(elements: &[u64], model: &[u64], f: FileNumber) -> Option<Element>
     requires good_elements { GoodElements elements.now }
     requires each { Each (TreeIn (length (elements_of elements.now).names)) (elements_of elements.now).trees }
     requires good_model { GoodModel model.now }
@@ -62,7 +53,7 @@ pub fn waiting_tree(elements: &[u64], model: &[u64], f: FileNumber) -> Waiting
 {
     let loaded = set_of(model, ROOT);
     if loaded.holds(f) {
-        return Waiting::Missing;
+        return None;
     }
     find_tree(elements, f)
 }
@@ -76,7 +67,7 @@ pub fn merge_tree(
     log: &mut [u64],
     f: FileNumber,
     b: Element,
-) -> Outcome
+) -> Result<(), Halt>
     requires good_fixed { GoodFixed deck.now schema.now elements.now }
     requires state_over { StateOver elements.now model.old log.old }
     requires f_lt_file_limit { f.0 < file_limit }
@@ -87,11 +78,8 @@ pub fn merge_tree(
 {
     let version = version_of(schema, f);
     let files = set_of(model, ROOT);
-    let r = merge_apart(
+    merge_apart(
         deck, schema, elements, model, log, f, version, files, ROOT, b, LEVELS,
-    );
-    if let Outcome::Done = r {
-        return extend(model, log, ROOT, f);
-    }
-    r
+    )?;
+    extend(model, log, ROOT, f)
 }

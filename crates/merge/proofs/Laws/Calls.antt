@@ -1,15 +1,15 @@
 -- Laws of the calls on lent tables: each refusal in its turn, and what is accepted. Assumes nothing.
+use Rattle.std.specs.Prelude as program
+use Rattle.std.specs.Prelude.{Some, None, Result, Ok, Err}
 use mathlib.Core.Bool.{true, false, false≢true}
 use mathlib.Core.List.{List}
 use mathlib.Core.Option.{none, some}
 use mathlib.Core.Path.{◌≡◌, refl, sym, ap, ◌∙◌}
-use Prim.Native.Nat.{ℕ, zero, suc, ◌+◌, ◌-◌, ◌≤◌, ◌<◌}
-use native.Mathlib.Numerals.{add-one}
+use Prim.Native.Nat.{ℕ, zero, suc, ◌-◌, ◌≤◌, ◌<◌}
 use native.Mathlib.Omega.{arith}
 use borrow.Author.Tests.{ltb-true, lt-ltb, le-ltb, eq-eqb, ne_eqb}
 use lib.Dec.{eqb, ltb}
-use lib.ListN.{length, get_or, take, set}
-use lib.Seq.{take_all, take-suc, take-suc-set}
+use lib.ListN.{length, get_or}
 use Rattle.tables.specs.Limits.{version_limit}
 use Rattle.tables.specs.Records.{Mode, sequence, choice, bag, mixed, characters, Log, type_row}
 use Rattle.tables.specs.ElementsTable.{elements_of}
@@ -32,17 +32,13 @@ use Rattle.merge_rules.specs.Range.{Range, calc_element_insert_range}
 use Rattle.merge_rules.specs.Refusals.{no_such_element, characters_parent, Outcome}
 use Rattle.merge_rules.specs.TableCalls.{CallResult, bad_tables, answered, range_call, merge_call, rollback_call}
 use Rattle.merge_log.specs.Answers.{outcome_is}
-use Rattle.merge_log.specs.declared.refusals.Refusal as refusal
-use Rattle.merge_log.specs.declared.refusals.Refusal.TheVariants.{NotWaiting, Unmergeable, NoMark}
-use Rattle.merge_log.specs.declared.refusals.Outcome as step
-use Rattle.merge_log.specs.declared.refusals.Outcome.TheVariants.{Done, Conflict, Refused}
+use Rattle.merge_log.specs.declared.refusals.Refusal.TheVariants.{NotWaiting, NoMark}
+use Rattle.merge_log.specs.declared.refusals.Halt.{Halt}
+use Rattle.merge_log.specs.declared.refusals.Halt.TheVariants.{Conflict, Refused}
 use Rattle.tables.specs.declared.numbers.Element.{Element}
-use Rattle.merge.specs.declared.calls.MergeAnswer.TheVariants.{Merged as AnswerMerged, Refused as AnswerRefused, BadTables}
-use Rattle.merge.specs.declared.calls.RollbackAnswer.TheVariants.{TakenOff, Refused as RollbackRefused, BadTables as RollbackBadTables}
+use Rattle.merge.specs.declared.calls.CallError.TheVariants.{Refused as CallRefused, BadTables}
 use Rattle.merge.specs.declared.counts.Counts.{Counts}
-use Rattle.merge.specs.declared.tree.Waiting.{Waiting}
-use Rattle.merge.specs.declared.tree.Waiting.TheVariants.{Root, Missing}
-use Rattle.merge.specs.Calls.{counts_is, merge_result, encoded_merge, concluded, waiting_is, WaitingIn, FindsTree, rollback_result}
+use Rattle.merge.specs.Calls.{halt_refusal, counts_is, merge_result, encoded_merge, concluded, waiting_is, WaitingIn, FindsTree, rollback_result}
 
 -- ---- tables that pass
 
@@ -106,66 +102,52 @@ module _ (deck schema elements model log : List ℕ) (e n v : ℕ) where
             let k : is_characters m ≡ false = characters-by m ∙ ne_eqb (mode_number m) 4 (λ z. h (sym is_number ∙ z)) in
             rw (range_call, p, range, lt-ltb e (length (elements_of elements).names) there, lt-ltb v version_limit low, k, g)
 
--- ---- a copy
-
-module _ (from to : List ℕ) (i : ℕ) (size : length to ≡ length from) (done : take i to ≡ take i from) where
-  pub copy_more : i < length from → take (i + 1) (set to i (get_or from i 0)) ≡ take (i + 1) from
-  copy_more h = rw (add-one i, take-suc-set to i (get_or from i 0) (omega arith), take-suc from i 0 h, done)
-
-  pub copy_done : length from ≤ i → to ≡ from
-  copy_done h = sym (take_all i to (omega arith)) ∙ done ∙ take_all i from h
-
 -- ---- merge
 
 -- what a step's answer concludes
-module _ (om ol m l : List ℕ) (mark : ℕ) (o : step.Outcome) where
-  pub concluded-done : (c : Counts) → o ≡ Done → counts_is c ≡ counts_of (entries_above mark (log_of l))
-      → merge_result (AnswerMerged c) m l ≡ concluded om ol mark m l (outcome_is o (state_in m l))
+module _ (om ol m l : List ℕ) (mark : ℕ) (o : Result (Unit {0}) Halt) where
+  pub concluded-done : (c : Counts) → o ≡ Ok tt → counts_is c ≡ counts_of (entries_above mark (log_of l))
+      → merge_result (Ok c) m l ≡ concluded om ol mark m l (outcome_is o (state_in m l))
   unfolding concluded
   concluded-done c d h = rw (d, h)
 
-  module _ (m' l' : List ℕ) (r : refusal.Refusal) (same_model : m' ≡ om) (same_log : l' ≡ ol) where
-    pub concluded-conflict : (e : Element) → o ≡ Conflict e → r ≡ Unmergeable e
-        → merge_result (AnswerRefused r) m' l' ≡ concluded om ol mark m l (outcome_is o (state_in m l))
-    unfolding concluded
-    concluded-conflict e d h = rw (d, h, same_model, same_log)
-
-    pub concluded-refused : (x : refusal.Refusal) → o ≡ Refused x → r ≡ x
-        → merge_result (AnswerRefused r) m' l' ≡ concluded om ol mark m l (outcome_is o (state_in m l))
-    unfolding concluded
-    concluded-refused x d h = rw (d, h, same_model, same_log)
+  pub concluded-halted : (m' l' : List ℕ) (h : Halt) → o ≡ Err h → m' ≡ om → l' ≡ ol
+      → merge_result (Err (CallRefused (halt_refusal h))) m' l' ≡ concluded om ol mark m l (outcome_is o (state_in m l))
+  unfolding concluded
+  concluded-halted m' l' (Conflict e) d same_model same_log = rw (d, same_model, same_log)
+  concluded-halted m' l' (Refused r) d same_model same_log = rw (d, same_model, same_log)
 
 -- tables that fit are the encodings of what they say
 module _ {n texts : ℕ} {m l m' l' : List ℕ} (before : StateFits n texts m l) (after : StateFits n texts m' l') {mark : ℕ} (at : mark ≡ length (log_of l)) where
-  concluded-is : (o : step.Outcome)
+  concluded-is : (o : Result (Unit {0}) Halt)
       → concluded m l mark m' l' (outcome_is o (state_in m' l')) ≡ encoded_merge (merged_from (state_in m l) (outcome_is o (state_in m' l')))
   unfolding concluded merged_from
-  concluded-is Done = rw (at, ← after.model_fits.good.raw, ← after.log_fits.good.raw)
-  concluded-is (Conflict e) = rw (← before.model_fits.good.raw, ← before.log_fits.good.raw)
-  concluded-is (Refused r) = rw (← before.model_fits.good.raw, ← before.log_fits.good.raw)
+  concluded-is (Ok d) = rw (at, ← after.model_fits.good.raw, ← after.log_fits.good.raw)
+  concluded-is (Err (Conflict e)) = rw (← before.model_fits.good.raw, ← before.log_fits.good.raw)
+  concluded-is (Err (Refused r)) = rw (← before.model_fits.good.raw, ← before.log_fits.good.raw)
 
-  pub merged-from : {om ol : List ℕ} → om ≡ m → ol ≡ l → (o : step.Outcome) {q : Outcome} → outcome_is o (state_in m' l') ≡ q
+  pub merged-from : {om ol : List ℕ} → om ≡ m → ol ≡ l → (o : Result (Unit {0}) Halt) {q : Outcome} → outcome_is o (state_in m' l') ≡ q
       → {a : CallResult rules.MergeAnswer} → a ≡ concluded om ol mark m' l' (outcome_is o (state_in m' l')) → a ≡ encoded_merge (merged_from (state_in m l) q)
   merged-from same_model same_log o e h =
       rw (same_model, same_log) at h ∙ concluded-is o ∙ ap (λ (q : Outcome). encoded_merge (merged_from (state_in m l) q)) e
 
 module _ (deck schema elements model log : List ℕ) (f : ℕ) where
-  pub merge-bad : lent_tables_pass deck schema elements model log ≡ false → merge_result BadTables model log ≡ merge_call deck schema elements model log f
+  pub merge-bad : lent_tables_pass deck schema elements model log ≡ false → merge_result (Err BadTables) model log ≡ merge_call deck schema elements model log f
   unfolding merge_call
   merge-bad p = sym (rw (merge_call, p))
 
-  module _ (p : lent_tables_pass deck schema elements model log ≡ true) {n : ℕ} (w : Waiting)
+  module _ (p : lent_tables_pass deck schema elements model log ≡ true) {n : ℕ} (w : program.Option Element)
       (finds : FindsTree n f w (waiting_tree (fixed_in deck schema elements) (model_of model) f)) where
-    pub no-tree : w ≡ Missing
-        → merge_result (AnswerRefused NotWaiting) model log ≡ merge_call deck schema elements model log f
+    pub no-tree : w ≡ None
+        → merge_result (Err (CallRefused NotWaiting)) model log ≡ merge_call deck schema elements model log f
     unfolding merge_call merge
     no-tree e =
         let s = lent-state deck schema elements model log p in
         let z : waiting_tree (fixed_in deck schema elements) (model_of model) f ≡ none = sym finds.is ∙ ap (waiting_is f) e in
         sym (rw (merge_call, p, merge, z, ← s.model_fits.good.raw, ← s.log_fits.good.raw))
 
-    module _ (b : Element) (e : w ≡ Root b) where
-      pub waiting-within : WaitingIn n f (Root b)
+    module _ (b : Element) (e : w ≡ Some b) where
+      pub waiting-within : WaitingIn n f (Some b)
       waiting-within = rw e at finds.within
 
       pub waiting-call : {q : CallResult rules.MergeAnswer}
@@ -185,13 +167,13 @@ mark-low zero l h = omega arith
 mark-low (suc n) l h = bool-split (ltb n (length l)) (λ e. omega (arith, ltb-true n (length l) e)) (λ e. absurd (false≢true (rw (is_mark, e) at h)))
 
 module _ (deck schema elements model log : List ℕ) (mark : ℕ) where
-  pub rollback-bad : lent_tables_pass deck schema elements model log ≡ false → rollback_result RollbackBadTables model log ≡ rollback_call deck schema elements model log mark
+  pub rollback-bad : lent_tables_pass deck schema elements model log ≡ false → rollback_result (Err BadTables) model log ≡ rollback_call deck schema elements model log mark
   unfolding rollback_call
   rollback-bad p = sym (rw (rollback_call, p))
 
   module _ (p : lent_tables_pass deck schema elements model log ≡ true) where
     pub no-mark : is_mark mark (log_of log) ≡ false
-        → rollback_result (RollbackRefused NoMark) model log ≡ rollback_call deck schema elements model log mark
+        → rollback_result (Err (CallRefused NoMark)) model log ≡ rollback_call deck schema elements model log mark
     unfolding rollback_call rollback
     no-mark k =
         let s = lent-state deck schema elements model log p in
@@ -199,7 +181,7 @@ module _ (deck schema elements model log : List ℕ) (mark : ℕ) where
 
     pub rolled-back : (n : ℕ) (model' log' : List ℕ) → is_mark mark (log_of log) ≡ true → n ≡ length (log_of log)
         → state_in model' log' ≡ rollback_merge mark (state_in model log) → KeepsState model log model' log'
-        → rollback_result (TakenOff (n - mark)) model' log' ≡ rollback_call deck schema elements model log mark
+        → rollback_result (Ok (n - mark)) model' log' ≡ rollback_call deck schema elements model log mark
     unfolding rollback_call rollback
     rolled-back n model' log' k h r keeps =
         let s = keeps _ _ (lent-state deck schema elements model log p) in

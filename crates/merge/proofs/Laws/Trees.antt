@@ -1,4 +1,6 @@
 -- Laws of a file's tree: the search for it, and its merge into the model's root. Assumes nothing.
+use Rattle.std.specs.Prelude as program
+use Rattle.std.specs.Prelude.{Some, None, Result, Ok}
 use mathlib.Core.Bool.{Bool, true, false}
 use mathlib.Core.List.{List}
 use mathlib.Core.Option.{Option}
@@ -24,11 +26,8 @@ use Rattle.merge_rules.specs.Level.{merge_element}
 use Rattle.merge_rules.specs.Log.{extend}
 use Rattle.merge_rules.specs.Refusals.{Outcome}
 use Rattle.merge_log.specs.Answers.{outcome_is}
-use Rattle.merge_log.specs.declared.refusals.Outcome as step
-use Rattle.merge_log.specs.declared.refusals.Outcome.TheVariants.{Done}
+use Rattle.merge_log.specs.declared.refusals.Halt.{Halt}
 use Rattle.imports.proofs.Laws.Imports.{then-done, then-stop}
-use Rattle.merge.specs.declared.tree.Waiting.{Waiting}
-use Rattle.merge.specs.declared.tree.Waiting.TheVariants.{Root, Missing}
 use Rattle.merge.specs.Calls.{FindsTree}
 
 -- ---- the search
@@ -38,7 +37,7 @@ of_file f t = eqb t.file f
 
 module _ (n f i : ℕ) (ts : List Tree) {o : Option Tree} where
   pub tree-found : (g : ℕ) (e : Element) → Each (TreeIn n) ts → i < length ts → g ≡ (get_or ts i no_tree).file → g ≡ f → e.0 ≡ (get_or ts i no_tree).root
-      → first_of (of_file f) (drop i ts) ≡ o → FindsTree n f (Root e) o
+      → first_of (of_file f) (drop i ts) ≡ o → FindsTree n f (Some e) o
   tree-found g e low h a b r k =
       let within = each-get_d (TreeIn n) ts i no_tree low h in
       let file : (get_or ts i no_tree).file ≡ f = sym a ∙ b in
@@ -47,20 +46,20 @@ module _ (n f i : ℕ) (ts : List Tree) {o : Option Tree} where
         within = (rw (← file) within.0, rw r within.1);
       }
 
-  pub tree-missing : length ts ≤ i → first_of (of_file f) (drop i ts) ≡ o → FindsTree n f Missing o
+  pub tree-missing : length ts ≤ i → first_of (of_file f) (drop i ts) ≡ o → FindsTree n f None o
   tree-missing h k = record { is = sym (first-end (of_file f) ts i h) ∙ k; within = tt }
 
 -- ---- its file in the root's set, or outside it
 
 module _ (deck schema elements model : List ℕ) (n f : ℕ) where
   pub not-waiting : (s : FileSet) (b : Bool) → s ≡ set_of (model_of model) root → b ≡ holds s f → b ≡ true
-      → FindsTree n f Missing (waiting_tree (fixed_in deck schema elements) (model_of model) f)
+      → FindsTree n f None (waiting_tree (fixed_in deck schema elements) (model_of model) f)
   unfolding waiting_tree
   not-waiting s b a h t =
       let z : holds (set_of (model_of model) root) f ≡ true = rw (← a) (sym h ∙ t) in
       record { is = rw (waiting_tree, z); within = tt }
 
-  pub maybe-waiting : (s : FileSet) (b : Bool) (r : Waiting) → s ≡ set_of (model_of model) root → b ≡ holds s f → b ≡ false
+  pub maybe-waiting : (s : FileSet) (b : Bool) (r : program.Option Element) → s ≡ set_of (model_of model) root → b ≡ holds s f → b ≡ false
       → FindsTree n f r (first_of (of_file f) (elements_of elements).trees) → FindsTree n f r (waiting_tree (fixed_in deck schema elements) (model_of model) f)
   unfolding waiting_tree
   maybe-waiting s b r a h t g =
@@ -69,12 +68,12 @@ module _ (deck schema elements model : List ℕ) (n f : ℕ) where
 
 -- ---- its merge
 
-module _ (x : Fixed) (f b : ℕ) (s t : State) (files : FileSet) (o : step.Outcome) (same : files ≡ set_of s.model root)
+module _ (x : Fixed) (f b : ℕ) (s t : State) (files : FileSet) (o : Result (Unit {0}) Halt) (same : files ≡ set_of s.model root)
     (is : outcome_is o t ≡ merge_element (suc depth_limit) x f files root b s) where
-  pub tree-stop : (o ≡ Done → ⊥) → outcome_is o t ≡ merge_tree x (record { file = f; root = b }) s
+  pub tree-stop : (o ≡ Ok tt → ⊥) → outcome_is o t ≡ merge_tree x (record { file = f; root = b }) s
   unfolding merge_tree
   tree-stop n = then-stop t (extend root f) o (rw same at is) n
 
-  pub tree-done : o ≡ Done → {q : Outcome} → q ≡ extend root f t → q ≡ merge_tree x (record { file = f; root = b }) s
+  pub tree-done : o ≡ Ok tt → {q : Outcome} → q ≡ extend root f t → q ≡ merge_tree x (record { file = f; root = b }) s
   unfolding merge_tree
   tree-done d e = e ∙ sym (then-done t (extend root f) o (rw same at is) d)

@@ -1,6 +1,8 @@
-use mathlib.Core.Bool.{true}
 use mathlib.Core.Path.{◌≡◌}
-use Rattle.state_test.specs.StateTest.{lent_tables_pass}
+use native.Mathlib.Omega.{arith}
+use Rattle.std.specs.Prelude.{Some, None, Err}
+use Rattle.merge_log.specs.declared.refusals.Refusal.TheVariants.{NotWaiting}
+use Rattle.merge.specs.declared.calls.CallError.TheVariants.{Refused}
 use Rattle.state_test.proofs.Laws.Answers.{passed, failed}
 use Rattle.state_test.proofs.Laws.Passed.{root-there}
 use Rattle.merge.proofs.Laws.Calls.{lent-fixed, lent-state, lent-root, merge-bad, no-tree, waiting-within, waiting-call}
@@ -11,19 +13,29 @@ returns-then-not-lent_tables_pass c =
     merge-bad c.args.deck.now c.args.schema.now c.args.elements.now c.args.model.now c.args.log.now c.args.file (failed c.lent_tables_pass.ensures c.if-not-lent_tables_pass.true)
 
 pub waiting_tree-requires : goal.waiting_tree-requires
-waiting_tree-requires c = let Tested_0 : Type 0 = lent_tables_pass c.args.deck.now c.args.schema.now c.args.elements.now c.args.model.now c.args.log.now ≡ true in let pass_0 : Tested_0 = passed c.lent_tables_pass.ensures c.if-not-lent_tables_pass.false in
-    let p = pass_0 in
-    let x = lent-fixed c.args.deck.now c.args.schema.now c.args.elements.now c.args.model.now c.args.log.now p in record { good_elements = x.elements_good; each = x.trees; good_model = (lent-state c.args.deck.now c.args.schema.now c.args.elements.now c.args.model.now c.args.log.now p).model_fits.good; nonzero = root-there c.args.deck.now c.args.schema.now c.args.elements.now c.args.model.now c.args.log.now p }
+waiting_tree-requires c =
+    let tested = passed c.lent_tables_pass.ensures c.if-not-lent_tables_pass.false in
+    let x = lent-fixed _ _ _ _ _ tested in
+    record { good_elements = x.elements_good; each = x.trees; good_model = (lent-state _ _ _ _ _ tested).model_fits.good; nonzero = root-there _ _ _ _ _ tested }
 
-pub returns-in_default : goal.returns-in_default
-returns-in_default c = let Tested_0 : Type 0 = lent_tables_pass c.args.deck.now c.args.schema.now c.args.elements.now c.args.model.now c.args.log.now ≡ true in let pass_0 : Tested_0 = passed c.lent_tables_pass.ensures c.if-not-lent_tables_pass.false in
-    let p = pass_0 in
-    no-tree c.args.deck.now c.args.schema.now c.args.elements.now c.args.model.now c.args.log.now c.args.file p c.waiting_tree.result (c.waiting_tree.ensures c.args.deck.now c.args.schema.now) c.in_default.is
+pub returns-in_err-b : goal.returns-in_err-b
+returns-in_err-b c =
+    let missing : c.waiting_tree.result ≡ None = grind arith in
+    let same : c.from_residual.result ≡ Err (Refused NotWaiting) = grind arith in
+    rw same
+    (no-tree c.args.deck.now c.args.schema.now c.args.elements.now c.args.model.now c.args.log.now c.args.file
+    (passed c.lent_tables_pass.ensures c.if-not-lent_tables_pass.false)
+    c.waiting_tree.result (c.waiting_tree.ensures c.args.deck.now c.args.schema.now) missing)
 
 pub merge_waiting-requires : goal.merge_waiting-requires
-merge_waiting-requires c = let Tested_0 : Type 0 = lent_tables_pass c.args.deck.now c.args.schema.now c.args.elements.now c.args.model.now c.args.log.now ≡ true in let pass_0 : Tested_0 = passed c.lent_tables_pass.ensures c.if-not-lent_tables_pass.false in
-    let p = pass_0 in let in-range = waiting-within c.args.deck.now c.args.schema.now c.args.elements.now c.args.model.now c.args.log.now c.args.file p c.waiting_tree.result (c.waiting_tree.ensures c.args.deck.now c.args.schema.now) _ c.in-Root.is in record { good_fixed = lent-fixed c.args.deck.now c.args.schema.now c.args.elements.now c.args.model.now c.args.log.now p; state_over = lent-state c.args.deck.now c.args.schema.now c.args.elements.now c.args.model.now c.args.log.now p; f_lt_file_limit = in-range.0; names_nonzero = lent-root c.args.deck.now c.args.schema.now c.args.elements.now c.args.model.now c.args.log.now p; b_in_bounds = in-range.1 }
+merge_waiting-requires c =
+    let p = passed c.lent_tables_pass.ensures c.if-not-lent_tables_pass.false in
+    let waits : c.waiting_tree.result ≡ Some c.in_ok-b.b = grind arith in
+    let within = waiting-within _ _ _ _ _ c.args.file p c.waiting_tree.result (c.waiting_tree.ensures c.args.deck.now c.args.schema.now) c.in_ok-b.b waits in
+    record { good_fixed = lent-fixed _ _ _ _ _ p; state_over = lent-state _ _ _ _ _ p; f_lt_file_limit = within.0; names_nonzero = lent-root _ _ _ _ _ p; b_in_bounds = within.1 }
 
 pub returns : goal.returns
-returns c = let Tested_0 : Type 0 = lent_tables_pass c.args.deck.now c.args.schema.now c.args.elements.now c.args.model.now c.args.log.now ≡ true in let pass_0 : Tested_0 = passed c.lent_tables_pass.ensures c.if-not-lent_tables_pass.false in
-    let p = pass_0 in waiting-call c.args.deck.now c.args.schema.now c.args.elements.now c.args.model.now c.args.log.now c.args.file p c.waiting_tree.result (c.waiting_tree.ensures c.args.deck.now c.args.schema.now) _ c.in-Root.is c.merge_waiting.ensures
+returns c =
+    let p = passed c.lent_tables_pass.ensures c.if-not-lent_tables_pass.false in
+    let waits : c.waiting_tree.result ≡ Some c.in_ok-b.b = grind arith in
+    waiting-call _ _ _ _ _ c.args.file p c.waiting_tree.result (c.waiting_tree.ensures c.args.deck.now c.args.schema.now) c.in_ok-b.b waits c.merge_waiting.ensures

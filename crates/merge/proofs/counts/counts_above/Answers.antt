@@ -1,14 +1,11 @@
 use mathlib.Core.Path.{refl}
-use native.Mathlib.Omega.{arith}
 use Rattle.tables.specs.LogTable.{entry_is}
 use Rattle.merge.proofs.Laws.Counts.{counting-start, counts-below, counting-next, counting-end}
+use borrow.Author.Rules.{rules}
 use Rattle.merge.proofs.counts.counts_above.Goals as goal
 
 pub loop-i-init : goal.loop-i-init
 loop-i-init c = counting-start _ _ _ _ refl refl refl c.log_length-i.ensures
-
-pub entry_at-a-requires : goal.entry_at-a-requires
-entry_at-a-requires c = record { good_log = c.requires; i_in_bounds = omega (arith, c.loop-i-test.true, c.loop-i.invariant.within) }
 
 pub count_entry-c-requires : goal.count_entry-c-requires
 count_entry-c-requires c =
@@ -20,4 +17,4 @@ loop-i-preserved c =
 
 pub returns : goal.returns
 returns c =
-    counting-end _ _ c.loop-i.c c.loop-i.i c.loop-i.invariant c.loop-i-test.false
+    counting-end _ _ c.loop-i.c c.loop-i.i c.loop-i.invariant (search rules)
