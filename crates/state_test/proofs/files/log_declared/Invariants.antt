@@ -9,7 +9,7 @@ use Rattle.deck.specs.Schema.{declared_files}
 use Rattle.state_test.specs.StateTest.{entry_declared}
 use Rattle.state_test.proofs.files.log_declared.Given as goal
 
--- the entries behind the i oldest are those read, and the older ones are declared where all are
+-- the i oldest entries are declared where all are
 abbrev pub invariant-loop-i : goal.invariant-loop-i
 invariant-loop-i l =
     (l.i ≤ length (log_of l.log)) × ((sc : Schema) → set_is l.d ≡ declared_files sc → all_of (entry_declared sc) (drop (length (log_of l.log) - l.i) (log_of l.log)) ≡ all_of (entry_declared sc) (log_of l.log))

@@ -1,6 +1,6 @@
 use Rattle.table_test.proofs.Laws.ModelTest.{OnceLeft}
 use Rattle.table_test.proofs.model_test.lists_once.Given as goal
 
--- each list before e has no element twice, and no mark is more than e
+-- the lists from e on have no element twice where no list has; no mark is more than e
 abbrev pub invariant-loop-e : goal.invariant-loop-e
 invariant-loop-e l = OnceLeft l.t l.marks l.e
