@@ -8,6 +8,9 @@ use Rattle.state_test.specs.StateTest.{lent_tables_pass}
 use Rattle.merge_rules.specs.Calls.{MergeAnswer, merged, merge_refused, RangeAnswer, range_is, range_refused, RollbackAnswer, taken_off, rollback_refused}
 use Rattle.merge_rules.specs.Refusals.{Refusal, refusal_fields}
 use Rattle.merge_rules.specs.TableCalls.{CallAnswer, bad_tables, answered}
+use Rattle.merge_log.specs.Answers.{refusal_is}
+use Rattle.merge.specs.declared.calls.CallError.{CallError}
+use Rattle.merge.specs.declared.calls.CallError.TheVariants.{BadTables, Refused as CallRefused}
 use Rattle.answer_numbers.specs.declared.numbers.Numbers as program
 
 abbrev pub answer_size : ℕ
@@ -54,6 +57,11 @@ or_zero (some n) = n
 -- number, element, name
 unfoldable pub refusal_numbers : Refusal → Numbered
 refusal_numbers r = let f = refusal_fields r in refuse f.number (or_zero f.element) (or_zero f.name)
+
+-- why a call is not done; refusal 0 has neither element nor name
+abbrev pub error_numbers : CallError → Numbered
+error_numbers BadTables = refuse 0 0 0
+error_numbers (CallRefused r) = refusal_numbers (refusal_is r)
 
 -- number, line
 unfoldable pub load_numbers : Answer → Numbered

@@ -3,12 +3,13 @@ ghost use Rattle.std.specs.Prelude.{◌≡◌};
 ghost use Rattle.load.specs.LoadCall.{load_answer};
 ghost use Rattle.merge_log.specs.Answers.{refusal_is};
 ghost use Rattle.merge.specs.Calls.{range_answer_is, merge_answer_is, rollback_answer_is};
-ghost use Rattle.merge_log.specs.Refusals.{optional_is};
-ghost use Rattle.answer_numbers.specs.Numbers.{numbered, numbers_is, by_answer, refused_by0, accept, refuse, or_zero, refusal_numbers, load_numbers, merge_numbers, range_numbers, rollback_numbers, mark_numbers};
+ghost use Rattle.answer_numbers.specs.Numbers.{numbered, numbers_is, by_answer, refused_by0, accept, refuse, refusal_numbers, error_numbers, load_numbers, merge_numbers, range_numbers, rollback_numbers, mark_numbers};
 
+use insert_range::range::Bounds;
 use load::refusals::LoadError;
-use merge::calls::{MergeAnswer, RangeAnswer, RollbackAnswer};
-use merge_log::refusals::{Optional, Refusal, refusal_fields};
+use merge::calls::CallError;
+use merge::counts::Counts;
+use merge_log::refusals::{Refusal, refusal_fields};
 use state_test::state::lent_tables_pass;
 use tables::cells::put2;
 use tables::log::log_length;
@@ -28,15 +29,6 @@ pub struct Numbers {
     pub second: u64,
     pub third: u64,
     pub fourth: u64,
-}
-
-fn or_zero(n: Optional) -> u64
-    ensures { result ≡ or_zero (optional_is n) }
-{
-    match n {
-        Optional::Missing => 0,
-        Optional::Given(x) => x,
-    }
 }
 
 pub fn accepted(first: u64, second: u64, third: u64, fourth: u64) -> Numbers
@@ -79,9 +71,17 @@ fn refusal_numbers(x: Refusal) -> Numbers
     ensures { numbers_is result ≡ refusal_numbers (refusal_is x) }
 {
     let f = refusal_fields(x);
-    let e = f.element;
-    let n = f.name;
-    refused(f.number, or_zero(e), or_zero(n))
+    refused(f.number, f.element.unwrap_or(0), f.name.unwrap_or(0))
+}
+
+// Why a call is not done; refusal 0 has neither element nor name.
+fn error_numbers(e: CallError) -> Numbers
+    ensures { numbers_is result ≡ error_numbers e }
+{
+    match e {
+        CallError::BadTables => refused(0, 0, 0),
+        CallError::Refused(x) => refusal_numbers(x),
+    }
 }
 
 #[tactic(auto, unfolding(crate::specs::Numbers::load_numbers, load::specs::LoadCall::load_answer))]
@@ -94,38 +94,38 @@ pub fn load_numbers(a: Result<(), LoadError>) -> Numbers
     }
 }
 
-pub fn merge_numbers(a: MergeAnswer) -> Numbers
+#[tactic(auto, unfolding(crate::specs::Numbers::merge_numbers))]
+pub fn merge_numbers(a: Result<Counts, CallError>) -> Numbers
     ensures { numbers_is result ≡ merge_numbers (merge_answer_is a) }
 {
     match a {
-        MergeAnswer::Merged(c) => accepted(
+        Ok(c) => accepted(
             c.imports as u64,
             c.restrictions as u64,
             c.extensions as u64,
             0,
         ),
-        MergeAnswer::Refused(x) => refusal_numbers(x),
-        MergeAnswer::BadTables => refused(0, 0, 0),
+        Err(e) => error_numbers(e),
     }
 }
 
-pub fn range_numbers(a: RangeAnswer) -> Numbers
+#[tactic(auto, unfolding(crate::specs::Numbers::range_numbers))]
+pub fn range_numbers(a: Result<Bounds, CallError>) -> Numbers
     ensures { numbers_is result ≡ range_numbers (range_answer_is a) }
 {
     match a {
-        RangeAnswer::Places(first, last) => accepted(first as u64, last as u64, 0, 0),
-        RangeAnswer::Refused(x) => refusal_numbers(x),
-        RangeAnswer::BadTables => refused(0, 0, 0),
+        Ok(bounds) => accepted(bounds.first as u64, bounds.last as u64, 0, 0),
+        Err(e) => error_numbers(e),
     }
 }
 
-pub fn rollback_numbers(a: RollbackAnswer) -> Numbers
+#[tactic(auto, unfolding(crate::specs::Numbers::rollback_numbers))]
+pub fn rollback_numbers(a: Result<usize, CallError>) -> Numbers
     ensures { numbers_is result ≡ rollback_numbers (rollback_answer_is a) }
 {
     match a {
-        RollbackAnswer::TakenOff(n) => accepted(n as u64, 0, 0, 0),
-        RollbackAnswer::Refused(x) => refusal_numbers(x),
-        RollbackAnswer::BadTables => refused(0, 0, 0),
+        Ok(n) => accepted(n as u64, 0, 0, 0),
+        Err(e) => error_numbers(e),
     }
 }
 

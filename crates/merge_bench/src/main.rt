@@ -9,7 +9,8 @@ ghost use Rattle.std.specs.Prelude.{◌≡◌, ◌≤◌, length};
 use deck::fields::number;
 use inputs::{argument, read_all};
 use load::load::load;
-use merge::calls::{MergeAnswer, copy, merge};
+use merge::calls::{CallError, merge};
+use merge::counts::Counts;
 use merge_log::refusals::refusal_fields;
 use std::fs::File;
 use std::io;
@@ -47,24 +48,13 @@ fn merge_anew(
     model: &mut [u64],
     log: &mut [u64],
     file: u64,
-) -> MergeAnswer
+) -> Result<Counts, CallError>
     requires old_model_len { length old_model.now ≡ length model.old }
     requires old_log_len { length old_log.now ≡ length log.old }
 {
-    copy(old_model, model);
-    copy(old_log, log);
+    model.copy_from_slice(old_model);
+    log.copy_from_slice(old_log);
     merge(deck, schema, elements, model, log, file)
-}
-
-// 1 where it is accepted.
-fn accepted(a: MergeAnswer) -> u64
-    ensures { result ≤ 1 }
-{
-    match a {
-        MergeAnswer::Merged(_) => 1,
-        MergeAnswer::Refused(_) => 0,
-        MergeAnswer::BadTables => 0,
-    }
 }
 
 // How many of so many merges are accepted.
@@ -84,24 +74,26 @@ fn merge_often(
 {
     let mut n: u64 = 0;
     for _ in 0..times {
-        n += accepted(merge_anew(deck, schema, elements, old_model, old_log, model, log, file));
+        if merge_anew(deck, schema, elements, old_model, old_log, model, log, file).is_ok() {
+            n += 1;
+        }
     }
     n
 }
 
-fn answer(rt: &impl Print, a: MergeAnswer) -> io::Result<()> {
+fn answer(rt: &impl Print, a: Result<Counts, CallError>) -> io::Result<()> {
     match a {
-        MergeAnswer::Merged(c) => {
+        Ok(c) => {
             word(rt, b"merged")?;
             field(rt, c.imports as u64)?;
             field(rt, c.restrictions as u64)?;
             field(rt, c.extensions as u64)
         }
-        MergeAnswer::Refused(r) => {
+        Err(CallError::BadTables) => word(rt, b"refused,0"),
+        Err(CallError::Refused(r)) => {
             word(rt, b"refused")?;
             field(rt, refusal_fields(r).number)
         }
-        MergeAnswer::BadTables => word(rt, b"refused,0"),
     }
 }
 

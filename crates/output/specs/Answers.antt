@@ -7,10 +7,23 @@ use Rattle.merge_rules.specs.CallLists.{rollback_line, range_line}
 use Rattle.merge_rules.specs.Program.{decimal_of, or_dash, line_of, answer_line}
 use Rattle.merge_rules.specs.Refusals.{Refusal, refusal_fields}
 use Rattle.merge_rules.specs.TableCalls.{CallAnswer, bad_tables, answered}
+use Rattle.merge_log.specs.Answers.{refusal_is}
+use Rattle.merge.specs.declared.calls.CallError.{CallError}
+use Rattle.merge.specs.declared.calls.CallError.TheVariants.{BadTables, Refused}
 
 -- the last three fields of a refusal: its number, element and name
 unfoldable pub refusal_text : Refusal → List ℕ
 refusal_text r = let f = refusal_fields r in line_of (decimal_of f.number ∷ or_dash f.element ∷ or_dash f.name ∷ [])
+
+-- why a call is not done: the last three fields, of refusal 0 too
+abbrev pub error_text : CallError → List ℕ
+error_text BadTables = line_of (bytes "0" ∷ bytes "-" ∷ bytes "-" ∷ [])
+error_text (Refused r) = refusal_text (refusal_is r)
+
+-- the number of a refusal, 0 too
+abbrev pub error_number : CallError → ℕ
+error_number BadTables = 0
+error_number (Refused r) = (refusal_fields (refusal_is r)).number
 
 -- the line of a call's answer; 0 is printed as a refusal without element and name
 unfoldable pub merge_text : FileNumber → CallAnswer MergeAnswer → List ℕ

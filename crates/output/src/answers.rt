@@ -9,11 +9,12 @@ ghost use Rattle.merge_log.specs.Answers.{refusal_is};
 ghost use Rattle.merge.specs.Calls.{counts_is, merge_answer_is, range_answer_is, rollback_answer_is};
 ghost use Rattle.printing.specs.Buffers.{buffer_is, Appends};
 ghost use Rattle.merge_log.specs.Refusals.{optional_is};
-ghost use Rattle.output.specs.Answers.{refusal_text, merge_text, rollback_text, range_text};
+ghost use Rattle.output.specs.Answers.{refusal_text, error_text, error_number, merge_text, rollback_text, range_text};
 
-use merge::calls::{MergeAnswer, RangeAnswer, RollbackAnswer};
+use insert_range::range::Bounds;
+use merge::calls::CallError;
 use merge::counts::Counts;
-use merge_log::refusals::{Optional, Refusal, refusal_fields};
+use merge_log::refusals::{Refusal, refusal_fields};
 use printing::buffer::{Written, append_byte, append_bytes, append_number};
 
 // A word with its comma and a number with its own: the first two fields of a line.
@@ -43,15 +44,15 @@ pub fn append_refused_deck(out: &mut [u8], w: Written, number: u64, line: u64) -
 // ---- refusals
 
 // A number, or `-`, and a byte behind it.
-fn append_optional(out: &mut [u8], w: Written, n: Optional, end: u8) -> Written
+fn append_optional(out: &mut [u8], w: Written, n: Option<u64>, end: u8) -> Written
     ensures { Appends (buffer_is w out.old) (or_dash (optional_is n) ++ (end ∷ [])) (buffer_is result out.new) }
 {
     match n {
-        Optional::Missing => {
+        Some(x) => append_number(out, w, x, 10, end),
+        None => {
             let k = append_byte(out, w, b'-');
             append_byte(out, k, end)
         }
-        Optional::Given(x) => append_number(out, w, x, 10, end),
     }
 }
 
@@ -60,11 +61,19 @@ fn append_refusal(out: &mut [u8], w: Written, x: Refusal) -> Written
     ensures { Appends (buffer_is w out.old) (refusal_text (refusal_is x)) (buffer_is result out.new) }
 {
     let f = refusal_fields(x);
-    let e = f.element;
-    let n = f.name;
     let k = append_number(out, w, f.number, 10, b',');
-    let l = append_optional(out, k, e, b',');
-    append_optional(out, l, n, b'\n')
+    let l = append_optional(out, k, f.element, b',');
+    append_optional(out, l, f.name, b'\n')
+}
+
+// Why a call is not done: the last three fields, of refusal 0 too.
+fn append_error(out: &mut [u8], w: Written, e: CallError) -> Written
+    ensures { Appends (buffer_is w out.old) (error_text e) (buffer_is result out.new) }
+{
+    match e {
+        CallError::BadTables => append_bytes(out, w, b"0,-,-\n"),
+        CallError::Refused(x) => append_refusal(out, w, x),
+    }
 }
 
 // ---- merge
@@ -77,45 +86,47 @@ fn append_merged(out: &mut [u8], w: Written, file: u64, c: Counts) -> Written
     append_tail(out, l, c.restrictions as u64, c.extensions as u64)
 }
 
-pub fn append_merge(out: &mut [u8], w: Written, file: u64, a: MergeAnswer) -> Written
+pub fn append_merge(out: &mut [u8], w: Written, file: u64, a: Result<Counts, CallError>) -> Written
     ensures { Appends (buffer_is w out.old) (merge_text file (merge_answer_is a)) (buffer_is result out.new) }
 {
     match a {
-        MergeAnswer::Merged(c) => append_merged(out, w, file, c),
-        MergeAnswer::Refused(x) => {
+        Ok(c) => append_merged(out, w, file, c),
+        Err(e) => {
             let k = append_head(out, w, b"refused,", file);
-            append_refusal(out, k, x)
-        }
-        MergeAnswer::BadTables => {
-            let k = append_head(out, w, b"refused,", file);
-            append_bytes(out, k, b"0,-,-\n")
+            append_error(out, k, e)
         }
     }
 }
 
 // ---- rollback
 
-// `rollback-refused,mark,number`
-fn append_rollback_refused(out: &mut [u8], w: Written, mark: u64, number: u64) -> Written
-    ensures { Appends (buffer_is w out.old) (line_of (bytes "rollback-refused" ∷ decimal_of mark ∷ decimal_of number ∷ [])) (buffer_is result out.new) }
+// The number of a refusal, 0 too.
+fn error_number(e: CallError) -> u64
+    ensures { result ≡ error_number e }
 {
-    let k = append_bytes(out, w, b"rollback-refused,");
-    append_tail(out, k, mark, number)
+    match e {
+        CallError::BadTables => 0,
+        CallError::Refused(x) => refusal_fields(x).number,
+    }
 }
 
-pub fn append_rollback(out: &mut [u8], w: Written, mark: u64, a: RollbackAnswer) -> Written
+pub fn append_rollback(
+    out: &mut [u8],
+    w: Written,
+    mark: u64,
+    a: Result<usize, CallError>,
+) -> Written
     ensures { Appends (buffer_is w out.old) (rollback_text mark (rollback_answer_is a)) (buffer_is result out.new) }
 {
     match a {
-        RollbackAnswer::TakenOff(n) => {
+        Ok(n) => {
             let k = append_bytes(out, w, b"rolledback,");
             append_tail(out, k, mark, n as u64)
         }
-        RollbackAnswer::Refused(x) => {
-            let f = refusal_fields(x);
-            append_rollback_refused(out, w, mark, f.number)
+        Err(e) => {
+            let k = append_bytes(out, w, b"rollback-refused,");
+            append_tail(out, k, mark, error_number(e))
         }
-        RollbackAnswer::BadTables => append_rollback_refused(out, w, mark, 0),
     }
 }
 
@@ -130,21 +141,24 @@ fn append_asked(out: &mut [u8], w: Written, word: &[u8], e: u64, n: u64, v: u64)
     append_number(out, l, v, 10, b',')
 }
 
-pub fn append_range(out: &mut [u8], w: Written, e: u64, n: u64, v: u64, a: RangeAnswer) -> Written
+pub fn append_range(
+    out: &mut [u8],
+    w: Written,
+    e: u64,
+    n: u64,
+    v: u64,
+    a: Result<Bounds, CallError>,
+) -> Written
     ensures { Appends (buffer_is w out.old) (range_text e n v (range_answer_is a)) (buffer_is result out.new) }
 {
     match a {
-        RangeAnswer::Places(first, last) => {
+        Ok(bounds) => {
             let k = append_asked(out, w, b"range,", e, n, v);
-            append_tail(out, k, first as u64, last as u64)
+            append_tail(out, k, bounds.first as u64, bounds.last as u64)
         }
-        RangeAnswer::Refused(x) => {
+        Err(error) => {
             let k = append_asked(out, w, b"range-refused,", e, n, v);
-            append_refusal(out, k, x)
-        }
-        RangeAnswer::BadTables => {
-            let k = append_asked(out, w, b"range-refused,", e, n, v);
-            append_bytes(out, k, b"0,-,-\n")
+            append_error(out, k, error)
         }
     }
 }

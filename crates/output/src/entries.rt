@@ -76,11 +76,9 @@ pub fn append_log(log: &[u64], out: &mut [u8], w: Written) -> Written
     let n = log_length(log);
     let head = append_bytes(out, w, b"log,");
     let mut k = append_number(out, head, n as u64, 10, b'\n');
-    let mut i: usize = 0;
-    while i < n {
+    for i in 0..n {
         let a = entry_at(log, i);
         k = append_entry(out, k, a);
-        i += 1;
     }
     k
 }

@@ -1,23 +1,18 @@
-use mathlib.Core.Path.{sym, ap}
 use Rattle.tables.specs.Bytes.{bytes}
 use Rattle.merge_rules.specs.CallLists.{rollback_line}
-use Rattle.merge_rules.specs.Program.{line_of, program_rules}
-use Rattle.merge_rules.specs.Refusals.{RefusalFields}
+use Rattle.merge_rules.specs.Program.{line_of}
 use Rattle.output.specs.Answers.{rollback_text}
-use Rattle.printing.proofs.Laws.Buffers.{then}
+use Rattle.printing.proofs.Laws.Buffers.{then, reads}
+use Rattle.output.proofs.Laws.Answers.{rollback-error}
 use Rattle.output.proofs.answers.append_rollback.Goals as goal
 
-pub returns-in-TakenOff : goal.returns-in-TakenOff
+pub returns-in-Ok : goal.returns-in-Ok
 unfolding rollback_text rollback_line line_of bytes
-returns-in-TakenOff c =
+returns-in-Ok c = rw c.in-Ok.is (then c.append_bytes-k.ensures c.append_tail.ensures)
+
+pub returns-in-Err : goal.returns-in-Err
+unfolding line_of bytes
+returns-in-Err c =
     rw
-    c.in-TakenOff.is
-    (then c.append_bytes-k.ensures c.append_tail.ensures)
-
-pub returns-in-Refused : goal.returns-in-Refused
-unfolding rollback_text rollback_line
-returns-in-Refused c = rw (c.in-Refused.is, ap (λ (f : RefusalFields). f.number) (sym c.refusal_fields-f.ensures)) c.append_rollback_refused.ensures
-
-pub returns-in-BadTables : goal.returns-in-BadTables
-unfolding rollback_text program_rules bytes
-returns-in-BadTables c = rw c.in-BadTables.is c.append_rollback_refused-in-BadTables.ensures
+    c.in-Err.is
+    (reads (rollback-error _ _) (then c.append_bytes-k-in-Err.ensures (rw c.error_number.ensures at c.append_tail-in-Err.ensures)))

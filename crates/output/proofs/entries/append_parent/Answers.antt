@@ -2,10 +2,10 @@ use Rattle.tables.specs.Bytes.{bytes}
 use Rattle.merge_rules.specs.Program.{decimal_of, or_dash}
 use Rattle.output.proofs.entries.append_parent.Goals as goal
 
-pub returns-in-Of : goal.returns-in-Of
+pub returns-in-Some : goal.returns-in-Some
 unfolding or_dash decimal_of bytes
-returns-in-Of c = rw c.in-Of.is c.append_number.ensures
+returns-in-Some c = rw c.in-Some.is c.append_number.ensures
 
-pub returns-in-Missing : goal.returns-in-Missing
+pub returns-in-None : goal.returns-in-None
 unfolding or_dash bytes
-returns-in-Missing c = rw c.in-Missing.is c.append_bytes.ensures
+returns-in-None c = rw c.in-None.is c.append_bytes.ensures

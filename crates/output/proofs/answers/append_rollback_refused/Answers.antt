@@ -1,8 +1,0 @@
-use Rattle.tables.specs.Bytes.{bytes}
-use Rattle.merge_rules.specs.Program.{line_of}
-use Rattle.printing.proofs.Laws.Buffers.{then}
-use Rattle.output.proofs.answers.append_rollback_refused.Goals as goal
-
-pub returns : goal.returns
-unfolding line_of bytes
-returns c = then c.append_bytes-k.ensures c.append_tail.ensures
