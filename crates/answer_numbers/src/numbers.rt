@@ -67,6 +67,7 @@ pub fn write_numbers(answer: &mut [u64], n: Numbers) -> u64
     n.code
 }
 
+#[tactic(auto, unfolding(crate::specs::Numbers::refusal_numbers, crate::specs::Numbers::or_zero))]
 fn refusal_numbers(x: Refusal) -> Numbers
     ensures { numbers_is result ≡ refusal_numbers (refusal_is x) }
 {
