@@ -1,13 +1,11 @@
 -- The mark of lent tables, and the lent answer. Assumes nothing.
 use mathlib.Core.Bool.{true, false}
-use mathlib.Core.List.{List, [], ◌∷◌, append-nil}
+use mathlib.Core.List.{List, [], ◌∷◌}
 use mathlib.Core.Path.{◌≡◌, sym, ap, ◌∙◌}
 use Prim.Native.Nat.{ℕ}
 use lib.ListN.{length}
 use borrow.Author.Tests.{eq-eqb, ne_eqb}
-use Rattle.tables.specs.Cells.{puts}
 use Rattle.tables.specs.LogTable.{log_of}
-use Rattle.tables.proofs.Laws.Cells.{puts_then, puts-front}
 use Rattle.state_test.specs.StateTest.{lent_tables_pass}
 use Rattle.answer_numbers.specs.Numbers.{answer_size, numbered, numbers_is, by_answer, refused_by0, accept, refuse, mark_numbers}
 use Rattle.answer_numbers.specs.declared.numbers.Numbers as program
@@ -31,13 +29,6 @@ module _ (answer : List ℕ) where
     pub right-size : {A : Type 0} (left left_by0 : A) → left ≡ by_answer answer left left_by0
     right-size left left_by0 = rw (eq-eqb (length answer) answer_size h, by_answer)
 
-    -- two numbers and two more fill an answer
-    pub filled : (n : program.Numbers) {half whole : List ℕ} → half ≡ puts answer 0 (n.first ∷ n.second ∷ [])
-        → whole ≡ puts half 2 (n.third ∷ n.fourth ∷ []) → numbered n.code whole ≡ by_answer answer (numbers_is n) (refused_by0 answer)
-    filled n {half} {whole} e f =
-        let ns : List ℕ = n.first ∷ n.second ∷ n.third ∷ n.fourth ∷ [] in
-        ap (numbered n.code)
-        (puts_then answer half whole 0 (n.first ∷ n.second ∷ []) (n.third ∷ n.fourth ∷ []) e f
-        ∙ ap (λ (l : List ℕ). puts l 0 ns) (sym (append-nil answer))
-        ∙ puts-front answer [] ns h)
-        ∙ right-size (numbers_is n) (refused_by0 answer)
+    pub filled : (n : program.Numbers) {whole : List ℕ} → whole ≡ n.first ∷ n.second ∷ n.third ∷ n.fourth ∷ []
+        → numbered n.code whole ≡ by_answer answer (numbers_is n) (refused_by0 answer)
+    filled n e = ap (numbered n.code) e ∙ right-size (numbers_is n) (refused_by0 answer)
