@@ -4,8 +4,7 @@ ghost use Rattle.std.proofs.Math.Option.{some};
 ghost use Rattle.tables.specs.Cells.{Each};
 ghost use Rattle.tables.specs.FileSets.{loaded_files};
 ghost use Rattle.tables.specs.Limits.{file_limit, element_limit, depth_limit, item_limit};
-ghost use Rattle.tables.specs.Lists.{any_of};
-ghost use Rattle.tables.specs.Records.{File, Tree, child, content_items, add_element, add_to_model};
+ghost use Rattle.tables.specs.Records.{File, child, content_items, add_element, add_to_model};
 ghost use Rattle.tables.specs.ElementsTable.{elements_of, GoodElements, HoldsElements};
 ghost use Rattle.tables.specs.ModelTable.{parent_is, item_is, count_of, model_of, ItemBelow, GoodModel, HoldsModel};
 ghost use Rattle.tables.specs.SchemaTable.{schema_of, GoodSchema, mode_from};
@@ -19,17 +18,14 @@ use crate::progress::{Kind, Progress};
 use crate::refusals::Refusal;
 use deck::lines::{ElementCells, TextCells};
 use schema_calls::calls::row_of_name;
-use schema_calls::files::{declared_files, declares_file};
+use schema_calls::files::{declared_files, declares_file, has_tree};
 use schema_calls::rules::type_declared;
 use tables::elements::{
     add_element_row, add_text, add_tree, element_count, element_type, text_count, tree_count,
-    tree_file,
 };
 use tables::file_set::FileSet;
 use tables::limits::{DEPTH_LIMIT, ELEMENT_LIMIT, ITEM_LIMIT};
-use tables::model::{
-    Item, add_element, count, insert_item, item_total, list_length, set_of,
-};
+use tables::model::{Item, add_element, count, insert_item, item_total, list_length, set_of};
 use tables::numbers::{Element, FileNumber, Name, TypeNumber};
 use tables::schema::{row_child, type_mode};
 
@@ -68,21 +64,6 @@ fn loaded_files(model: &[u64]) -> FileSet
         return FileSet::none();
     }
     set_of(model, Element(0))
-}
-
-// The file has a tree.
-fn has_tree(elements: &[u64], f: FileNumber) -> bool
-    requires { GoodElements elements.now }
-    ensures { result ≡ any_of (λ (t : Tree). eqb t.file f.0) (elements_of elements.now).trees }
-{
-    let n = tree_count(elements);
-    for i in 0..n {
-        let g = tree_file(elements, i);
-        if g.0 == f.0 {
-            return true;
-        }
-    }
-    false
 }
 
 // The file is declared, outside the root's set, and has no tree yet.

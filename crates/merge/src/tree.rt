@@ -17,8 +17,8 @@ ghost use Rattle.merge.specs.Calls.{FindsTree};
 use level::level::merge_apart;
 use merge_log::log::extend;
 use merge_log::refusals::Halt;
-use schema_calls::files::version_of;
-use tables::elements::{tree_count, tree_file, tree_root};
+use schema_calls::files::{tree_place, version_of};
+use tables::elements::tree_root;
 use tables::limits::DEPTH_LIMIT;
 use tables::model::set_of;
 use tables::numbers::{Element, FileNumber};
@@ -33,14 +33,8 @@ fn find_tree(elements: &[u64], f: FileNumber) -> Option<Element>
     requires each { Each (TreeIn (length (elements_of elements.now).names)) (elements_of elements.now).trees }
     ensures { FindsTree (length (elements_of elements.now).names) f.0 result (first_of (λ (t : Tree). eqb t.file f.0) (elements_of elements.now).trees) }
 {
-    let n = tree_count(elements);
-    for i in 0..n {
-        let g = tree_file(elements, i);
-        if g == f {
-            return Some(tree_root(elements, i));
-        }
-    }
-    None
+    let i = tree_place(elements, f)?;
+    Some(tree_root(elements, i))
 }
 
 // The root of the file's tree, which waits while the file is outside the root's set.

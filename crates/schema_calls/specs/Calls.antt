@@ -5,7 +5,7 @@ use Rattle.tables.specs.Cells.{Each}
 use Rattle.tables.specs.FileSets.{holds}
 use Rattle.tables.specs.Lists.{any_of, all_of}
 use Rattle.tables.specs.Paths.{same_path}
-use Rattle.tables.specs.Records.{Name, TypeNumber, FileNumber, FileSet, Version, Mask, SchemaPath, Group, SubElement, File, Schema}
+use Rattle.tables.specs.Records.{Name, TypeNumber, FileNumber, FileSet, Version, Mask, SchemaPath, Group, SubElement, File, Schema, Tree}
 use Rattle.deck.specs.Schema.{proper_beginnings, has_group, meets}
 use Rattle.std.specs.Prelude as program_option
 use Rattle.std.specs.Prelude.{Some, None}
@@ -39,6 +39,9 @@ group_matches t p g = eqb g.type t && same_path g.path p
 
 abbrev pub file_matches : FileNumber → File → Bool
 file_matches f d = eqb d.file f
+
+abbrev pub tree_matches : FileNumber → Tree → Bool
+tree_matches f t = eqb t.file f
 
 -- the smaller of a version and that of the file, if the set has the file
 abbrev pub least_with : FileSet → FileNumber → Version → Version → Version

@@ -1,14 +1,16 @@
-// Declared files and their versions.
+// Declared files, their versions and their trees.
 ghost use Rattle.std.specs.Prelude.{◌≡◌, ◌<◌};
 ghost use Rattle.tables.specs.Cells.{Each};
+ghost use Rattle.tables.specs.ElementsTable.{elements_of, GoodElements, no_tree};
 ghost use Rattle.tables.specs.Limits.{file_limit};
-ghost use Rattle.tables.specs.Lists.{first_of};
+ghost use Rattle.tables.specs.Lists.{any_of, first_of};
 ghost use Rattle.tables.specs.Records.{File};
 ghost use Rattle.tables.specs.SchemaTable.{schema_of, GoodSchema, no_file};
 ghost use Rattle.tables.specs.SetCells.{set_is};
 ghost use Rattle.deck.specs.Schema.{declares_file, declared_files, version_of, least_version};
-ghost use Rattle.schema_calls.specs.Calls.{Finds, file_matches, least_with};
+ghost use Rattle.schema_calls.specs.Calls.{Finds, file_matches, tree_matches, least_with};
 
+use tables::elements::{tree_count, tree_file};
 use tables::file_set::FileSet;
 use tables::numbers::FileNumber;
 use tables::schema::{file_count, file_number, file_version};
@@ -24,6 +26,27 @@ fn find_file(schema: &[u64], f: FileNumber) -> Option<usize>
         }
     }
     None
+}
+
+// The place of the first tree of the file.
+pub fn tree_place(elements: &[u64], f: FileNumber) -> Option<usize>
+    requires { GoodElements elements.now }
+    ensures { Finds no_tree (elements_of elements.now).trees result (first_of (tree_matches f.0) (elements_of elements.now).trees) }
+{
+    for i in 0..tree_count(elements) {
+        if tree_file(elements, i) == f {
+            return Some(i);
+        }
+    }
+    None
+}
+
+// The file has a tree.
+pub fn has_tree(elements: &[u64], f: FileNumber) -> bool
+    requires { GoodElements elements.now }
+    ensures { result ≡ any_of (tree_matches f.0) (elements_of elements.now).trees }
+{
+    tree_place(elements, f).is_some()
 }
 
 pub fn declares_file(schema: &[u64], f: FileNumber) -> bool
