@@ -62,11 +62,14 @@ fn run_list(rt: &(impl Files + Print), list: &[u8]) -> io::Result<u64> {
 
 fn main(rt: HostRuntime) -> io::Result<()> {
     let mut list = megabyte();
-    match read_file(&rt, b"list", b"", &mut list) {
-        Ok(n) if 0 < n => {
-            rt.print(run_list(&rt, &list[..n])?)?;
-            word(&rt, b" cases differ\n")
-        }
-        _ => word(&rt, b"list: no case\n"),
+    // Of a list that cannot be read to its end, the cases up to there.
+    let n = match read_file(&rt, b"list", b"", &mut list) {
+        Ok(n) => n,
+        Err(e) => e.count,
+    };
+    if n == 0 {
+        return word(&rt, b"list: no case\n");
     }
+    rt.print(run_list(&rt, &list[..n])?)?;
+    word(&rt, b" cases differ\n")
 }

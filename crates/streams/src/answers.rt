@@ -1,11 +1,11 @@
 // Files by name and ending, and what a test program printed, held to one of them.
-ghost use Rattle.std.specs.Prelude.{◌≤◌, length, IfOk};
+ghost use Rattle.std.specs.Prelude.{◌≤◌, length, IfOk, IfErr};
 ghost use Rattle.printing.specs.Counts.{IsPrefixLen};
 
 use crate::buffer::{MEGABYTE, megabyte};
 use crate::files::open_read;
 use deck::lines::line_end;
-use inputs::read_all;
+use inputs::{ReadError, read_all};
 use std::io;
 use std::rt::Files;
 
@@ -24,14 +24,22 @@ fn append(buf: &mut [u8], at: usize, text: &[u8]) -> usize
 }
 
 // How many bytes of the file of this name and ending stand at the buffer's start, as far as it has room.
-pub fn read_file(rt: &impl Files, name: &[u8], ending: &[u8], buf: &mut [u8]) -> io::Result<usize>
-    ensures { IfOk result (λ n. IsPrefixLen n buf.new) }
+pub fn read_file(
+    rt: &impl Files,
+    name: &[u8],
+    ending: &[u8],
+    buf: &mut [u8],
+) -> Result<usize, ReadError>
+    ensures read { IfOk result (λ n. IsPrefixLen n buf.new) }
+    ensures failed { IfErr result (λ e. IsPrefixLen e.count buf.new) }
 {
     let mut path = [0u8; 4096];
     let n = append(&mut path, 0, name);
     let m = append(&mut path, n, ending);
-    let mut file = open_read(rt, &path[..m])?;
-    read_all(&mut file, buf)
+    match open_read(rt, &path[..m]) {
+        Ok(mut file) => read_all(&mut file, buf),
+        Err(error) => Err(ReadError { count: 0, error }),
+    }
 }
 
 // How many bytes two texts have in common at their starts.

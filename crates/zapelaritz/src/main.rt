@@ -29,7 +29,7 @@ fn run(
     let mut deck = deck_buffer();
     match read_all(file, &mut deck) {
         Ok(n) => print_all(rt, &deck[..n], calls),
-        Err(error) => fail(rt, name, error),
+        Err(e) => fail(rt, name, e.error),
     }
 }
 
@@ -60,7 +60,7 @@ fn run_calls(
             list,
             ": longer than the 1048575 bytes of the largest list of calls",
         ),
-        Err(error) => fail(rt, list, error),
+        Err(e) => fail(rt, list, e.error),
     }
 }
 
