@@ -1,9 +1,9 @@
 -- Laws of one line: the parts that are written in turn are the line of the rules. Assumes nothing.
 use mathlib.Core.List.{List, [], ◌∷◌, ◌++◌}
 use mathlib.Core.Path.{◌≡◌, refl, sym, subst}
-use Prim.Native.Nat.{ℕ, suc, ◌+◌, ◌-◌, ◌/◌, ◌%◌, ◌≤◌, ◌<◌}
+use Prim.Native.Nat.{ℕ, suc, ◌+◌, ◌-◌}
 use native.Mathlib.Omega.{arith}
-use lib.ListN.{length, get_or, take, drop}
+use lib.ListN.{length, take, drop}
 use Rattle.tables.specs.Bytes.{bytes}
 use Rattle.tables.specs.Records.{Place, Text, enum_number, string, whole_number, float, Model, Fixed, name_of, depth_of, set_of}
 use Rattle.tables.specs.declared.text.StoredText as stored

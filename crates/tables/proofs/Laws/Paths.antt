@@ -8,7 +8,6 @@ use native.Mathlib.Numerals.{add-one}
 use native.Mathlib.Omega.{arith}
 use lib.Dec.{eqb, eqb-suc-zero, eqb-suc-suc}
 use lib.ListN.{length, get_or, drop, drop_of_length-le}
-use Rattle.std.specs.declared.cmp.Ordering as program
 use Rattle.std.specs.Ordering.{is_eq}
 use Rattle.tables.specs.declared.path.Path.{Path}
 use Rattle.tables.specs.Paths.{path_order, same_path, shared_beginning, front, path_cells, cells_of, parts_of, order_of, shares_part}

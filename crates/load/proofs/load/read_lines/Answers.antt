@@ -1,4 +1,3 @@
-use native.Mathlib.Omega.{arith}
 use borrow.Author.Rules.{rules}
 use Rattle.load.proofs.Laws.Reading.{reading-start, reading-open, reading-taken, reading-refused, reading-end}
 use Rattle.load.proofs.load.read_lines.Goals as goal
@@ -9,33 +8,16 @@ loop-at-init c =
     c.requires.holds_schema c.requires.holds_elements
     c.requires.holds_model c.start-p.ensures
 
-pub overflow_add-number : goal.overflow_add-number
-overflow_add-number c =
-    let i = c.loop-at.invariant in
-    search rules
-
-pub line_from-requires : goal.line_from-requires
-line_from-requires c = (c.requires.deck_len_bound, c.loop-at.invariant.within)
-
 pub returns-in_default : goal.returns-in_default
 returns-in_default c =
     reading-open c.args.deck.now c.loop-at.p c.loop-at.at c.loop-at.n c.loop-at.schema c.loop-at.elements c.loop-at.model
     c.loop-at.invariant c.loop-at-test.true (rw c.in_default.is at c.line_from.ensures)
-
-pub load_line-requires : goal.load_line-requires
-load_line-requires c =
-    let f = rw c.in-Some.is at c.line_from.ensures in record { good_loading = c.loop-at.invariant.good; line_fits = f.reads.fits }
 
 pub returns-in_err-p : goal.returns-in_err-p
 returns-in_err-p c =
     let f = rw c.in-Some.is at c.line_from.ensures in
     reading-refused c.args.deck.now c.loop-at.p c.loop-at.at c.loop-at.n c.loop-at.schema c.loop-at.elements c.loop-at.model
     c.loop-at.invariant _ _ f _ _ _ _ c.load_line.ensures _ (λ q e. search rules) (λ x e. search rules)
-
-pub loop-at-smaller : goal.loop-at-smaller
-loop-at-smaller c =
-    let f = rw c.in-Some.is at c.line_from.ensures in
-    omega (arith, f.next.past, f.is, c.loop-at-test.true)
 
 pub loop-at-preserved : goal.loop-at-preserved
 loop-at-preserved c =

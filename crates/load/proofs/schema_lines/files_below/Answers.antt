@@ -1,4 +1,4 @@
-use mathlib.Core.Path.{refl, sym, ◌∙◌}
+use mathlib.Core.Path.{sym, ◌∙◌}
 use Prim.Native.Nat.{ℕ}
 use borrow.Author.Tests.{lt-ltb, le-ltb}
 use borrow.Author.Rules.{rules}
@@ -11,9 +11,6 @@ use Rattle.load.proofs.schema_lines.files_below.Goals as goal
 
 abbrev below : ℕ → File → Bool
 below f d = ltb d.file f
-
-pub loop-i-init : goal.loop-i-init
-loop-i-init c = refl
 
 pub returns-then-f-g : goal.returns-then-f-g
 returns-then-f-g c =

@@ -38,19 +38,6 @@ returns-then-p c =
     in
     line_as (e-root _ _ _ _ c.if-c-gt-DEPTH_LIMIT.false few room c.if-p.true) c.load_root.ensures
 
-pub load_child-requires : goal.load_child-requires
-load_child-requires c =
-    let few = rw c.element_count.ensures at c.if-element_count-ge-ELEMENT_LIMIT.false in
-    let d = c.args.c.depth in
-    let n = content_items (model_of c.args.model.now) in
-    let room : (eqb d 0 || ltb n item_limit) ≡ true =
-    elim c.else-c-ne0.branch [
-      | else-c-ne0-via-then-c-ne0+else-item_total-ge-ITEM_LIMIT w ↦ room-item d n (rw w.item_total.ensures at w.if-item_total-ge-ITEM_LIMIT.false)
-      | else-c-ne0-via-else-c-ne0 w ↦ room-root d n w.if-c-ne0.false
-    ]
-    in
-    record { good_loading = c.requires; elements_len_bound = few; depth_le_depth_limit = c.if-c-gt-DEPTH_LIMIT.false; item_limit_value = room }
-
 pub returns : goal.returns
 returns c =
     let few = rw c.element_count.ensures at c.if-element_count-ge-ELEMENT_LIMIT.false in

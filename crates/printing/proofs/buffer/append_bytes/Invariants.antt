@@ -1,4 +1,4 @@
-use Prim.Native.Nat.{◌≤◌, ◌-◌}
+use Prim.Native.Nat.{◌≤◌}
 use lib.ListN.{length, drop}
 use Rattle.printing.specs.Buffers.{buffer_is}
 use Rattle.printing.proofs.Laws.Buffers.{Leaves}

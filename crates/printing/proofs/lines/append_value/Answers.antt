@@ -2,9 +2,6 @@ use Rattle.printing.proofs.Laws.Buffers.{reads}
 use Rattle.printing.proofs.Laws.Lines.{value-enum, value-string, value-whole, value-float}
 use Rattle.printing.proofs.lines.append_value.Goals as goal
 
-pub append_string_value-requires : goal.append_string_value-requires
-append_string_value-requires c = rw c.in-Str.is at c.requires
-
 pub returns-in-Number : goal.returns-in-Number
 returns-in-Number c = λ x d. rw c.in-Number.is (reads (value-enum x _) c.append_number_value.ensures)
 

@@ -1,5 +1,5 @@
 -- The measure is the levels left, three steps to a level.
-use Rattle.std.proofs.Common.{List, ℕ, suc, ◌+◌, ◌-◌, ◌*◌, ◌≤◌, drop}
+use Rattle.std.proofs.Common.{List, ℕ, suc, ◌+◌, ◌*◌, drop}
 use Rattle.tables.specs.Records.{Item, depth_of, list_of}
 use Rattle.tables.specs.ModelTable.{model_of}
 use Rattle.state_test.specs.StateTest.{fixed_in}

@@ -2,12 +2,6 @@ use Rattle.printing.proofs.Laws.Buffers.{then, reads}
 use Rattle.printing.proofs.Laws.Trees.{tree-parts}
 use Rattle.printing.proofs.trees.append_tree.Goals as goal
 
-pub append_element-requires : goal.append_element-requires
-append_element-requires c = record {
-  readable = c.requires.readable;
-  e_bound = rw c.tree_root-root.ensures (c.requires.readable.roots c.args.t c.requires.t_in_bounds);
-}
-
 pub returns : goal.returns
 returns c =
     λ schema.

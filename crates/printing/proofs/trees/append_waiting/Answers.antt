@@ -1,21 +1,10 @@
-use mathlib.Core.List.{[]}
 use mathlib.Core.Path.{sym, ◌∙◌}
 use Prim.Native.Nat.{◌<◌}
 use native.Mathlib.Omega.{arith}
 use lib.ListN.{length}
 use Rattle.tables.specs.ElementsTable.{elements_of}
-use Rattle.printing.proofs.Laws.Buffers.{begin, as_long}
 use Rattle.printing.proofs.Laws.Trees.{merged-turn, waiting-turn, waiting-end}
-use borrow.Author.Rules.{rules}
 use Rattle.printing.proofs.trees.append_waiting.Goals as goal
-
-pub loop-t-init : goal.loop-t-init
-loop-t-init c = λ schema. begin _ _
-
-pub tree_file-requires : goal.tree_file-requires
-tree_file-requires c =
-    let h : c.loop-t.t < length (elements_of c.args.elements.now).trees = omega (arith, c.tree_count-t-end.ensures) in
-    record { good_elements = search rules; t_in_bounds = h }
 
 pub loop-t-preserved-then-holds : goal.loop-t-preserved-then-holds
 loop-t-preserved-then-holds c =
@@ -23,19 +12,11 @@ loop-t-preserved-then-holds c =
     let e = sym c.holds.ensures ∙ c.if-holds.true in
     λ schema. merged-turn _ _ _ c.loop-t.t h (c.loop-t.invariant schema) c.set_of-loaded.ensures c.tree_file.ensures e
 
-pub append_tree-k-requires : goal.append_tree-k-requires
-append_tree-k-requires c =
-    let h : c.loop-t.t < length (elements_of c.args.elements.now).trees = omega (arith, c.tree_count-t-end.ensures) in
-    record { readable = c.requires; t_in_bounds = h }
-
 pub loop-t-preserved : goal.loop-t-preserved
 loop-t-preserved c =
     let h : c.loop-t.t < length (elements_of c.args.elements.now).trees = omega (arith, c.tree_count-t-end.ensures) in
     let e = sym c.holds.ensures ∙ c.if-holds.false in
     λ schema. waiting-turn _ _ _ c.loop-t.t h (c.loop-t.invariant schema) c.set_of-loaded.ensures c.tree_file.ensures e (c.append_tree-k.ensures schema)
-
-pub shape_of-out : goal.shape_of-out
-shape_of-out c = as_long (c.loop-t.invariant [])
 
 pub returns : goal.returns
 returns c = λ schema. waiting-end _ _ _ c.loop-t.t (omega (arith, c.tree_count-t-end.ensures)) (c.loop-t.invariant schema)

@@ -1,9 +1,5 @@
 use mathlib.Core.Path.{◌∙◌}
-use Prim.Native.Nat.{◌<◌}
-use Rattle.tables.specs.Limits.{file_limit}
-use Rattle.tables.specs.Records.{File}
-use Rattle.tables.specs.SchemaTable.{schema_of, no_file}
-use Rattle.tables.proofs.Laws.Cells.{each-get_d}
+use Rattle.tables.specs.SchemaTable.{schema_of}
 use Rattle.deck.specs.Schema.{declared_files}
 use Rattle.schema_calls.proofs.Laws.Files.{files-none, files-more, files-all}
 use borrow.Author.Rules.{rules}
@@ -11,10 +7,6 @@ use Rattle.schema_calls.proofs.files.declared_files.Goals as goal
 
 pub loop-i-init : goal.loop-i-init
 loop-i-init c = (search rules, c.none-s.ensures ∙ files-none (schema_of c.args.schema.now).files _ c.file_count-i.ensures)
-
-pub with-s-requires : goal.with-s-requires
-with-s-requires c =
-    rw c.file_number.ensures (each-get_d (λ (d : File). d.file < file_limit) (schema_of c.args.schema.now).files _ no_file c.requires.each (search rules))
 
 pub loop-i-preserved : goal.loop-i-preserved
 loop-i-preserved c =

@@ -1,13 +1,10 @@
-use mathlib.Core.Path.{refl, sym, ◌∙◌}
+use mathlib.Core.Path.{sym, ◌∙◌}
 use Rattle.tables.specs.SchemaTable.{schema_of, no_file}
 use Rattle.schema_calls.specs.Calls.{file_matches}
 use Rattle.tables.proofs.Laws.Scans.{first_more}
 use Rattle.schema_calls.proofs.Laws.Scans.{finds-at, finds-none}
 use borrow.Author.Rules.{rules}
 use Rattle.schema_calls.proofs.files.find_file.Goals as goal
-
-pub loop-i-init : goal.loop-i-init
-loop-i-init c = refl
 
 pub returns-then-eq : goal.returns-then-eq
 returns-then-eq c =

@@ -1,5 +1,4 @@
 use mathlib.Core.Path.{◌≡◌}
-use Prim.Native.Nat.{◌-◌}
 use lib.ListN.{drop}
 use Rattle.tables.specs.SchemaTable.{schema_of}
 use Rattle.tables.specs.SetCells.{set_is}

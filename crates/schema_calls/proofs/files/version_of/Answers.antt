@@ -1,12 +1,8 @@
 use mathlib.Core.Path.{◌∙◌}
 use Rattle.tables.specs.SchemaTable.{schema_of}
-use Rattle.schema_calls.proofs.Laws.Scans.{found-at, found_within, found-missing}
+use Rattle.schema_calls.proofs.Laws.Scans.{found-at, found-missing}
 use Rattle.schema_calls.proofs.Laws.Files.{version-at, version-none}
-use borrow.Author.Rules.{rules}
 use Rattle.schema_calls.proofs.files.version_of.Goals as goal
-
-pub file_version-requires : goal.file_version-requires
-file_version-requires c = record { good_schema = search rules; i_in_bounds = found_within c.find_file.ensures c.in-Some.is }
 
 pub returns-in-Some : goal.returns-in-Some
 returns-in-Some c =

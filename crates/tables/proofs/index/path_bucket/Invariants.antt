@@ -1,5 +1,4 @@
 use mathlib.Core.Path.{◌≡◌}
-use Prim.Native.Nat.{◌-◌}
 use lib.ListN.{drop}
 use Rattle.tables.specs.Index.{path_bucket}
 use Rattle.tables.specs.Paths.{front, cells_of, parts_of}

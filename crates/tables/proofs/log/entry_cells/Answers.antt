@@ -1,9 +1,6 @@
 use Rattle.tables.specs.LogTable.{entry_cells}
 use Rattle.tables.proofs.log.entry_cells.Goals as goal
 
-pub parent_cell-requires : goal.parent_cell-requires
-parent_cell-requires c = let h = rw c.in-Import.is at c.requires in h.2
-
 pub returns-in-Import : goal.returns-in-Import
 unfolding entry_cells
 returns-in-Import c = rw (c.in-Import.is, ← c.parent_cell.ensures)

@@ -1,10 +1,7 @@
 use mathlib.Core.Path.{ap, ◌∙◌}
 use Rattle.tables.specs.ModelTable.{cell_item}
-use Rattle.tables.proofs.Laws.ModelTable.{read-item, item-below, listed_below, cell_item-back}
+use Rattle.tables.proofs.Laws.ModelTable.{read-item, item-below, cell_item-back}
 use Rattle.tables.proofs.model.item_at.Goals as goal
-
-pub start_of-requires : goal.start_of-requires
-start_of-requires c = record { good_model = c.requires.good_model; e_bound = listed_below c.args.model.now c.requires.good_model c.args.e.0 c.args.i c.requires.i_in_bounds }
 
 pub returns : goal.returns
 returns c =

@@ -1,17 +1,10 @@
-use mathlib.Core.Path.{refl, sym, ◌∙◌}
+use mathlib.Core.Path.{sym, ◌∙◌}
 use Prim.Native.Nat.{ℕ, ◌-◌}
-use native.Mathlib.Nat.{le_refl}
 use native.Mathlib.Omega.{arith}
 use lib.ListN.{get_or, length-set}
 use lib.Seq.{get_or-set_other}
 use Rattle.tables.proofs.Laws.Lists.{on_from-turn, on_from-past}
 use Rattle.tables.proofs.model.lower_from.Goals as goal
-
-pub loop-j-init : goal.loop-j-init
-loop-j-init c = (refl, refl, c.requires)
-
-pub overflow_sub-s : goal.overflow_sub-s
-overflow_sub-s c = omega (arith, c.loop-j.invariant.2 c.loop-j.j (le_refl c.loop-j.j) (omega arith))
 
 pub loop-j-preserved : goal.loop-j-preserved
 loop-j-preserved c =

@@ -1,4 +1,4 @@
-use mathlib.Core.Path.{◌≡◌, refl, ◌∙◌, ap}
+use mathlib.Core.Path.{◌≡◌, ◌∙◌, ap}
 use Prim.Native.Nat.{◌-◌}
 use native.Mathlib.Omega.{arith}
 use borrow.Rule.Slice.PartMut.{put_mid}
@@ -16,6 +16,3 @@ returns c =
     let d = length c.loop-j.s - n in
     let z : c.loop-j.j ≡ n = omega arith in
     ap (put_mid n d c.loop-j.s) c.clear.ensures ∙ shift_out-last c.loop-j.s n d c.args.k (omega arith) (omega arith) ∙ (rw z at c.loop-j.invariant.0)
-
-pub loop-j-init : goal.loop-j-init
-loop-j-init c = (refl, refl, omega arith)

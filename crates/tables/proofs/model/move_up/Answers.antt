@@ -1,9 +1,8 @@
 use mathlib.Core.List.{List, ◌++◌}
-use mathlib.Core.Path.{◌≡◌, refl, sym, ◌∙◌, ap}
+use mathlib.Core.Path.{◌≡◌, refl, ◌∙◌, ap}
 use Prim.Native.Nat.{ℕ, ◌-◌}
 use native.Mathlib.Omega.{arith}
 use lib.ListN.{length, drop, length-set}
-use lib.Seq.{length-take-le}
 use Rattle.tables.proofs.Laws.Lists.{remove_run-last, shift_in-turn, shift_in-first}
 use Rattle.tables.proofs.model.move_up.Goals as goal
 
@@ -14,9 +13,6 @@ loop-j-init c =
 pub loop-j-preserved : goal.loop-j-preserved
 loop-j-preserved c =
     (shift_in-turn c.loop-j.s c.loop-j.j _ (omega arith) (omega arith) ∙ c.loop-j.invariant.0, simp length-set c.loop-j.invariant.1, omega arith)
-
-pub slice_bounds-fill-end-2 : goal.slice_bounds-fill-end-2
-slice_bounds-fill-end-2 c = sym (length-take-le c.args.k c.loop-j.s (omega arith))
 
 pub returns : goal.returns
 returns c =

@@ -1,10 +1,5 @@
-use Rattle.tables.specs.ModelTable.{item_is}
-use Rattle.tables.proofs.Laws.ModelTable.{item-weaker, store-item}
+use Rattle.tables.proofs.Laws.ModelTable.{store-item}
 use Rattle.tables.proofs.model.put_item.Goals as goal
-
-pub item_cell-requires : goal.item_cell-requires
-item_cell-requires c =
-    item-weaker _ _ (item_is c.args.a) c.requires.good_model.sized.count c.requires.item_below
 
 pub returns : goal.returns
 returns c =

@@ -1,4 +1,4 @@
-use mathlib.Core.Path.{◌≡◌, sym, ◌∙◌}
+use mathlib.Core.Path.{◌≡◌}
 use Prim.Native.Nat.{suc, ◌+◌, ◌-◌}
 use native.Mathlib.Omega.{arith}
 use borrow.Rule.Slice.PartMut.{mid_of}
@@ -24,6 +24,3 @@ returns c = let shifted_0 : c.shift_out.new.s
     (start_of (model_of c.args.model.now).lists c.args.e.0 + c.args.i)
     c.args.k = rw c.start_of.ensures.is at c.shift_out.ensures in let starts-lent_0 : starts_at + c.count-n.result + 1 - starts_at ≡ suc (count_of (model_of c.args.model.now)) = omega (arith, c.count-n.ensures) in let items-lent_0 : items_at + c.item_total-total.result - items_at ≡ content_items (model_of c.args.model.now) = omega (arith, c.item_total-total.ensures) in
     store-remove c.args.model.now c.requires.good_model c.args.e.0 c.args.i c.args.k c.requires.e_bound c.requires.k_in_bounds _ _ _ items-lent_0 starts-lent_0 shifted_0 c.lower_from.new.s c.lower_from.ensures
-
-pub shape_of-model : goal.shape_of-model
-shape_of-model c = (returns c).good.size ∙ sym c.requires.good_model.size

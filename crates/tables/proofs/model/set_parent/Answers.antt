@@ -1,10 +1,5 @@
-use Rattle.tables.specs.ModelTable.{parent_is}
-use Rattle.tables.proofs.Laws.ModelTable.{store-parent, parent-weaker}
+use Rattle.tables.proofs.Laws.ModelTable.{store-parent}
 use Rattle.tables.proofs.model.set_parent.Goals as goal
-
-pub parent_cell-requires : goal.parent_cell-requires
-parent_cell-requires c =
-    parent-weaker _ _ (parent_is c.args.p) c.requires.good_model.sized.count c.requires.parent_below
 
 pub returns : goal.returns
 returns c =

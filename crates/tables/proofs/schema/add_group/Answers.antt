@@ -1,14 +1,8 @@
-use mathlib.Core.Path.{sym, ◌∙◌}
-use native.Mathlib.Omega.{arith}
-use lib.ListN.{length-set}
 use borrow.Author.Rules.{rules}
 use Rattle.tables.specs.Paths.{cells_of, parts_of}
 use Rattle.tables.specs.SchemaTable.{mode_from}
 use Rattle.tables.proofs.Laws.SchemaTable.{added-group, group-cells, length_front}
 use Rattle.tables.proofs.schema.add_group.Goals as goal
-
-pub link-requires : goal.link-requires
-link-requires c = record { index_size_in_bounds = simp length-set (omega arith); b_lt_buckets = search rules; n_bound = omega arith }
 
 pub returns : goal.returns
 returns c =
@@ -17,6 +11,3 @@ returns c =
     (length_front (cells_of c.args.p)) (search rules) c.group_count-m.ensures
     (group-cells c.args.t.0 _ _ _ _ (parts_of c.args.p) c.stored_path-q.ensures c.args.mode (search rules))
     c.put.ensures c.path_bucket.ensures.value)
-
-pub shape_of-schema : goal.shape_of-schema
-shape_of-schema c = (returns c).good.size ∙ sym c.requires.good_schema.size

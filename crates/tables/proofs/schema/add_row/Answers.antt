@@ -1,17 +1,8 @@
-use mathlib.Core.Path.{sym, ◌∙◌}
-use native.Mathlib.Omega.{arith}
-use lib.ListN.{length-set}
 use borrow.Author.Rules.{rules}
 use Rattle.tables.specs.Paths.{cells_of, parts_of}
 use Rattle.tables.specs.SchemaTable.{mult_is}
 use Rattle.tables.proofs.Laws.SchemaTable.{added-row, row-cells, length_front}
 use Rattle.tables.proofs.schema.add_row.Goals as goal
-
-pub link-requires : goal.link-requires
-link-requires c = record { index_size_in_bounds = simp length-set (omega arith); b_lt_buckets = search rules; n_bound = omega arith }
-
-pub link-requires-2 : goal.link-requires-2
-link-requires-2 c = record { index_size_in_bounds = rw c.link.ensures (simp length-set (omega arith)); b_lt_buckets = search rules; n_bound = omega arith }
 
 pub returns : goal.returns
 returns c =
@@ -28,6 +19,3 @@ returns c =
     _ _ (length_front (cells_of c.args.p)) (search rules) c.row_count-m.ensures
     (row-cells c.args.t.0 _ _ _ _ (parts_of c.args.p) c.stored_path-q.ensures c.args.n.0 c.args.child.0 (mult_is c.args.mult) c.args.mask c.number.ensures)
     c.put.ensures c.bucket.ensures.value c.path_bucket.ensures.value)
-
-pub shape_of-schema : goal.shape_of-schema
-shape_of-schema c = (returns c).good.size ∙ sym c.requires.good_schema.size

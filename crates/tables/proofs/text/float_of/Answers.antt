@@ -1,4 +1,4 @@
-use mathlib.Core.Path.{refl, sym, ◌∙◌}
+use mathlib.Core.Path.{sym, ◌∙◌}
 use Rattle.tables.proofs.Laws.Texts.{nan_pattern, other-pattern, zero_by_zero}
 use Rattle.tables.proofs.text.float_of.Goals as goal
 
@@ -7,6 +7,3 @@ float_from_bits-result c = other-pattern c.args.bits c.if-bits-gt921886843722740
 
 pub returns-then-bits-gt9218868437227405312 : goal.returns-then-bits-gt9218868437227405312
 returns-then-bits-gt9218868437227405312 c = zero_by_zero ∙ sym (nan_pattern c.args.bits c.if-bits-gt9218868437227405312.true)
-
-pub returns-else-bits-gt9218868437227405312 : goal.returns-else-bits-gt9218868437227405312
-returns-else-bits-gt9218868437227405312 c = refl

@@ -1,11 +1,8 @@
 use mathlib.Core.Bool.{◌&&◌, and-true}
 use mathlib.Core.Path.{sym, ap, ◌∙◌}
 use borrow.Author.Rules.{rules}
-use Rattle.tables.proofs.Laws.Texts.{bytes-start, bytes-end, bytes_next}
+use Rattle.tables.proofs.Laws.Texts.{bytes-end, bytes_next}
 use Rattle.tables.proofs.text.same_bytes.Goals as goal
-
-pub loop-i-init : goal.loop-i-init
-loop-i-init c = sym (bytes-start c.args.deck.now c.args.a c.args.b c.args.n)
 
 pub loop-i-preserved : goal.loop-i-preserved
 loop-i-preserved c =

@@ -3,9 +3,6 @@ use Rattle.tables.specs.Texts.{same_values}
 use Rattle.tables.proofs.Laws.Texts.{not-number, not-str, not-whole, not-float}
 use Rattle.tables.proofs.text.same_text.Goals as goal
 
-pub same_string-requires : goal.same_string-requires
-same_string-requires c = (rw c.in-Str.is at c.requires.0, rw c.in-Str-b.is at c.requires.1)
-
 pub returns-in-Number-b : goal.returns-in-Number-b
 unfolding same_values
 returns-in-Number-b c = rw (c.in-Number.is, c.in-Number-b.is)

@@ -1,30 +1,6 @@
 use Rattle.table_test.specs.AreaTest.{row_passes}
 use Rattle.table_test.proofs.area_test.Area.row_passes.Goals as goal
 
-pub type_passes-requires : goal.type_passes-requires
-type_passes-requires c = rw c.in-Types.is at c.requires
-
-pub group_passes-requires : goal.group_passes-requires
-group_passes-requires c = rw c.in-Groups.is at c.requires
-
-pub sub_element_passes-requires : goal.sub_element_passes-requires
-sub_element_passes-requires c = rw c.in-SubElements.is at c.requires
-
-pub file_passes-requires : goal.file_passes-requires
-file_passes-requires c = rw c.in-Files.is at c.requires
-
-pub element_passes-requires : goal.element_passes-requires
-element_passes-requires c = rw c.in-Elements.is at c.requires
-
-pub text_passes-requires : goal.text_passes-requires
-text_passes-requires c = rw c.in-Texts.is at c.requires
-
-pub tree_passes-requires : goal.tree_passes-requires
-tree_passes-requires c = rw c.in-Trees.is at c.requires
-
-pub entry_passes-requires : goal.entry_passes-requires
-entry_passes-requires c = rw c.in-Entries.is at c.requires
-
 pub returns-in-Types : goal.returns-in-Types
 unfolding row_passes
 returns-in-Types c = rw c.in-Types.is c.type_passes.ensures

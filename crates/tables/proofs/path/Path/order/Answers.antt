@@ -1,11 +1,8 @@
-use mathlib.Core.Path.{refl, sym, ap, ◌∙◌}
+use mathlib.Core.Path.{sym, ap, ◌∙◌}
 use borrow.Author.Rules.{rules}
 use Rattle.tables.specs.Paths.{order_of}
 use Rattle.tables.proofs.Laws.Paths.{order-less-at, order-greater-at, order-end-at, order-next-at, order-past}
 use Rattle.tables.proofs.path.Path.order.Goals as goal
-
-pub loop-i-init : goal.loop-i-init
-loop-i-init c = refl
 
 pub returns-then-x-y : goal.returns-then-x-y
 unfolding order_of

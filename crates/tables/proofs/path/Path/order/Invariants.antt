@@ -1,5 +1,4 @@
 use mathlib.Core.Path.{◌≡◌}
-use Prim.Native.Nat.{◌-◌}
 use lib.ListN.{drop}
 use Rattle.tables.specs.Paths.{path_order, front, cells_of, parts_of}
 use Rattle.tables.proofs.path.Path.order.Given as goal

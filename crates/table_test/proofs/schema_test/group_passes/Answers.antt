@@ -1,4 +1,0 @@
-use Rattle.table_test.proofs.schema_test.group_passes.Goals as goal
-
-pub returns : goal.returns
-returns c = rw c.path_passes.ensures
