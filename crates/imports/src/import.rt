@@ -337,6 +337,7 @@ pub fn import_new_items(
 {
     let any = takes_any_place(schema, elements, p);
     let mut i: usize = 0;
+    // No `for`: the rows that are imported together are passed at once.
     while i < ni {
         let k = rows_together(model, work, na, ni, i, p, any);
         import_rows(schema, elements, model, log, work, na, i, k, f, v, p)?;

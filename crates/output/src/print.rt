@@ -68,6 +68,7 @@ fn answer_calls(
     let mut k = w;
     let mut at: usize = 0;
     let mut n: u64 = 0;
+    // No `for`: the end of a line is known once it is found, and a full buffer ends the calls.
     while at < calls.len() {
         if out.len() <= k.count {
             return k;

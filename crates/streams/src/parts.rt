@@ -47,6 +47,7 @@ fn print_part(
 // All parts.
 pub fn print_all(rt: &(impl Print + Eprint), deck: &[u8], calls: Option<&[u8]>) -> io::Result<()> {
     let mut from: usize = 0;
+    // No `for`: the first part that is not full is the last.
     while from <= LAST_PART && print_part(rt, deck, calls, from)? {
         from += MEGABYTE;
     }

@@ -3,10 +3,10 @@ use Rattle.std.specs.Prelude as program
 use Rattle.std.specs.Prelude.{Some, None, Result, Ok}
 use mathlib.Core.Bool.{Bool, true, false}
 use mathlib.Core.List.{List}
-use mathlib.Core.Option.{Option}
+use mathlib.Core.Option.{Option, some}
 use mathlib.Core.Path.{◌≡◌, sym, ◌∙◌}
 use Prim.Native.Nat.{ℕ, suc, ◌≤◌, ◌<◌}
-use borrow.Author.Tests.{eq-eqb}
+use borrow.Author.Tests.{eqb-true}
 use lib.Dec.{eqb}
 use lib.ListN.{length, get_or, drop}
 use Rattle.tables.specs.Cells.{Each}
@@ -18,9 +18,11 @@ use Rattle.tables.specs.ModelTable.{model_of}
 use Rattle.tables.specs.Records.{FileNumber, FileSet, Tree, Fixed, State, root, set_of}
 use Rattle.tables.specs.declared.numbers.Element.{Element}
 use Rattle.tables.proofs.Laws.Cells.{each-get_d}
-use Rattle.tables.proofs.Laws.Scans.{first-stop, first-end}
+use Rattle.schema_calls.specs.Calls.{Finds, tree_matches}
+use Rattle.schema_calls.proofs.Laws.Scans.{found-at, found_within, found-missing}
 use Rattle.table_test.specs.ElementsTest.{TreeIn}
 use Rattle.state_test.specs.StateTest.{fixed_in}
+use Rattle.merge_rules.proofs.Laws.Lists.{first_of-some}
 use Rattle.merge_rules.specs.Calls.{merge_tree}
 use Rattle.merge_rules.specs.Level.{merge_element}
 use Rattle.merge_rules.specs.Log.{extend}
@@ -32,22 +34,19 @@ use Rattle.merge.specs.Calls.{FindsTree}
 
 -- ---- the search
 
-abbrev pub of_file : FileNumber → Tree → Bool
-of_file f t = eqb t.file f
-
-module _ (n f i : ℕ) (ts : List Tree) {o : Option Tree} where
-  pub tree-found : (g : ℕ) (e : Element) → Each (TreeIn n) ts → i < length ts → g ≡ (get_or ts i no_tree).file → g ≡ f → e.0 ≡ (get_or ts i no_tree).root
-      → first_of (of_file f) (drop i ts) ≡ o → FindsTree n f (Some e) o
-  tree-found g e low h a b r k =
-      let within = each-get_d (TreeIn n) ts i no_tree low h in
-      let file : (get_or ts i no_tree).file ≡ f = sym a ∙ b in
+module _ (n f : ℕ) (ts : List Tree) {q : program.Option ℕ} {o : Option Tree} (s : Finds no_tree ts q o) (first : o ≡ first_of (tree_matches f) ts) where
+  pub tree-found : {i : ℕ} (e : Element) → q ≡ Some i → Each (TreeIn n) ts → e.0 ≡ (get_or ts i no_tree).root → FindsTree n f (Some e) o
+  tree-found {i} e h low r =
+      let at : o ≡ some (get_or ts i no_tree) = found-at s h in
+      let within = each-get_d (TreeIn n) ts i no_tree low (found_within s h) in
+      let file : (get_or ts i no_tree).file ≡ f = eqb-true _ _ (first_of-some (tree_matches f) ts (sym first ∙ at)).0 in
       record {
-        is = rw (r, ← file) (sym (first-stop (of_file f) ts i no_tree h (eq-eqb _ _ file)) ∙ k);
+        is = rw (r, ← file) (sym at);
         within = (rw (← file) within.0, rw r within.1);
       }
 
-  pub tree-missing : length ts ≤ i → first_of (of_file f) (drop i ts) ≡ o → FindsTree n f None o
-  tree-missing h k = record { is = sym (first-end (of_file f) ts i h) ∙ k; within = tt }
+  pub tree-missing : q ≡ None → FindsTree n f None o
+  tree-missing h = record { is = sym (found-missing s h); within = tt }
 
 -- ---- its file in the root's set, or outside it
 
@@ -60,7 +59,7 @@ module _ (deck schema elements model : List ℕ) (n f : ℕ) where
       record { is = rw (waiting_tree, z); within = tt }
 
   pub maybe-waiting : (s : FileSet) (b : Bool) (r : program.Option Element) → s ≡ set_of (model_of model) root → b ≡ holds s f → b ≡ false
-      → FindsTree n f r (first_of (of_file f) (elements_of elements).trees) → FindsTree n f r (waiting_tree (fixed_in deck schema elements) (model_of model) f)
+      → FindsTree n f r (first_of (tree_matches f) (elements_of elements).trees) → FindsTree n f r (waiting_tree (fixed_in deck schema elements) (model_of model) f)
   unfolding waiting_tree
   maybe-waiting s b r a h t g =
       let z : holds (set_of (model_of model) root) f ≡ false = rw (← a) (sym h ∙ t) in
