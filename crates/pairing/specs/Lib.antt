@@ -1,3 +1,5 @@
+pub mod Props
+pub mod Lent
 pub mod Actions
 pub mod Keys
 pub mod Plans

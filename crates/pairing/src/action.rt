@@ -1,18 +1,16 @@
 // Pairing: what becomes of the cursor children.
 ghost use Rattle.std.specs.Prelude.{false, List, ◌≡◌, ℕ, ◌<◌, length};
-ghost use Rattle.tables.specs.ElementsTable.{elements_of};
-ghost use Rattle.tables.specs.ModelTable.{model_of};
 ghost use Rattle.tables.specs.Paths.{parts_of};
-ghost use Rattle.tables.specs.SchemaTable.{schema_of, GoodSchema, no_sub_element};
+ghost use Rattle.tables.specs.SchemaTable.{schema_of, GoodSchema};
 ghost use Rattle.deck.specs.Schema.{row_of_name};
-ghost use Rattle.schema_calls.specs.Calls.{Finds};
 ghost use Rattle.state_test.specs.StateTest.{fixed_in};
 ghost use Rattle.merge_rules.specs.Pairing.{element_text, item_name, definition, same_key, same_texts, calc_identifiables_merge, calc_element_merge, path_of, action_by_path};
-ghost use Rattle.table_test.specs.Fits.{GoodFixed, ModelOver};
+ghost use Rattle.pairing.specs.Lent.{fixed_of, model_in, element_count};
 ghost use Rattle.pairing.specs.Actions.{Listed, Acts, Decides, Searches};
 ghost use Rattle.pairing.specs.Keys.{KeyMarks};
 
 use crate::keys::{is_identifiable, key_of, sole_text, stored_text};
+use crate::lent::Tables;
 use crate::sibling::{same_key, sibling};
 use schema_calls::calls::row_of_name;
 use std::cmp::Ordering;
@@ -44,21 +42,13 @@ fn path_of(schema: &[u64], t: TypeNumber, n: Name) -> Path
 }
 
 // Names differ.
-fn action_by_path(
-    deck: &[u8],
-    schema: &[u64],
-    elements: &[u64],
-    t: TypeNumber,
-    a: Element,
-    b: Element,
-) -> Action
-    requires good_fixed { GoodFixed deck.now schema.now elements.now }
-    requires a_in_bounds { a.0 < length (elements_of elements.now).names }
-    requires b_in_bounds { b.0 < length (elements_of elements.now).names }
-    ensures { Acts (length (elements_of elements.now).names) result (action_by_path (fixed_in deck.now schema.now elements.now) t.0 a.0 b.0) }
+fn action_by_path(tables: &Tables, t: TypeNumber, a: Element, b: Element) -> Action
+    requires a_in_bounds { a.0 < element_count tables.now }
+    requires b_in_bounds { b.0 < element_count tables.now }
+    ensures { Acts (element_count tables.now) result (action_by_path (fixed_of tables.now) t.0 a.0 b.0) }
 {
-    let p = path_of(schema, t, element_name(elements, a));
-    let q = path_of(schema, t, element_name(elements, b));
+    let p = path_of(tables.schema, t, element_name(tables.elements, a));
+    let q = path_of(tables.schema, t, element_name(tables.elements, b));
     let o = p.order(q);
     match o {
         Ordering::Less => Action::AOnly,
@@ -67,25 +57,20 @@ fn action_by_path(
     }
 }
 
-fn same_element_text(
-    deck: &[u8],
-    schema: &[u64],
-    elements: &[u64],
-    model: &[u64],
-    a: Element,
-    b: Element,
-) -> bool
-    requires good_fixed { GoodFixed deck.now schema.now elements.now }
-    requires model_over { ModelOver elements.now model.now }
-    requires a_in_bounds { a.0 < length (elements_of elements.now).names }
-    requires b_in_bounds { b.0 < length (elements_of elements.now).names }
-    ensures { result ≡ same_texts (fixed_in deck.now schema.now elements.now) (element_text (fixed_in deck.now schema.now elements.now) (model_of model.now) a.0) (element_text (fixed_in deck.now schema.now elements.now) (model_of model.now) b.0) }
+fn same_element_text(tables: &Tables, a: Element, b: Element) -> bool
+    requires a_in_bounds { a.0 < element_count tables.now }
+    requires b_in_bounds { b.0 < element_count tables.now }
+    ensures { result ≡ same_texts (fixed_of tables.now) (element_text (fixed_of tables.now) (model_in tables.now) a.0) (element_text (fixed_of tables.now) (model_in tables.now) b.0) }
 {
-    let first = sole_text(deck, schema, elements, model, a);
-    let second = sole_text(deck, schema, elements, model, b);
+    let first = sole_text(tables, a);
+    let second = sole_text(tables, b);
     match first {
         Some(t) => match second {
-            Some(u) => same_text(stored_text(elements, t), stored_text(elements, u), deck),
+            Some(u) => same_text(
+                stored_text(tables.elements, t),
+                stored_text(tables.elements, u),
+                tables.deck,
+            ),
             None => false,
         },
         None => match second {
@@ -96,39 +81,29 @@ fn same_element_text(
 }
 
 // What the cursor children alone decide; None where a B sibling is to be sought. The A parent is of type t.
-pub fn cursor_action(
-    deck: &[u8],
-    schema: &[u64],
-    elements: &[u64],
-    model: &[u64],
-    t: TypeNumber,
-    a: Element,
-    b: Element,
-) -> Option<Action>
-    requires good_fixed { GoodFixed deck.now schema.now elements.now }
-    requires model_over { ModelOver elements.now model.now }
-    requires t_in_bounds { t.0 < length (schema_of schema.now).types }
-    requires a_in_bounds { a.0 < length (elements_of elements.now).names }
-    requires b_in_bounds { b.0 < length (elements_of elements.now).names }
-    ensures { Decides (length (elements_of elements.now).names) (fixed_in deck.now schema.now elements.now) (model_of model.now) t.0 a.0 b.0 result }
+pub fn cursor_action(tables: &Tables, t: TypeNumber, a: Element, b: Element) -> Option<Action>
+    requires t_in_bounds { t.0 < length (schema_of tables.now.schema.now).types }
+    requires a_in_bounds { a.0 < element_count tables.now }
+    requires b_in_bounds { b.0 < element_count tables.now }
+    ensures { Decides (element_count tables.now) (fixed_of tables.now) (model_in tables.now) t.0 a.0 b.0 result }
 {
-    let m = element_name(elements, a);
-    let n = element_name(elements, b);
+    let m = element_name(tables.elements, a);
+    let n = element_name(tables.elements, b);
     if m != n {
-        return Some(action_by_path(deck, schema, elements, t, a, b));
+        return Some(action_by_path(tables, t, a, b));
     }
-    if is_identifiable(deck, schema, elements, model, a) {
-        let key = key_of(deck, schema, elements, model, true, a);
-        let other = key_of(deck, schema, elements, model, true, b);
-        if same_key(deck, key, other) {
+    if is_identifiable(tables, a) {
+        let key = key_of(tables, true, a);
+        let other = key_of(tables, true, b);
+        if same_key(tables.deck, key, other) {
             return Some(Action::MergeEqual);
         }
         return None;
     }
-    let key = key_of(deck, schema, elements, model, false, a);
-    let other = key_of(deck, schema, elements, model, false, b);
-    if same_key(deck, key, other) {
-        if same_element_text(deck, schema, elements, model, a, b) {
+    let key = key_of(tables, false, a);
+    let other = key_of(tables, false, b);
+    if same_key(tables.deck, key, other) {
+        if same_element_text(tables, a, b) {
             return Some(Action::MergeEqual);
         }
         return Some(Action::AOnly);
@@ -138,24 +113,19 @@ pub fn cursor_action(
 
 // Names equal and keys different, A identifiable.
 fn calc_identifiables_merge(
-    deck: &[u8],
-    schema: &[u64],
-    elements: &[u64],
-    model: &[u64],
+    tables: &Tables,
     splittable: bool,
     second: &[u16],
     names: &[u16],
     a: Element,
 ) -> Action
-    requires good_fixed { GoodFixed deck.now schema.now elements.now }
-    requires model_over { ModelOver elements.now model.now }
-    requires listed { Listed (length (elements_of elements.now).names) second.now }
-    requires key_marks { KeyMarks (item_name (fixed_in deck.now schema.now elements.now) (model_of model.now)) second.now names.now }
-    requires a_in_bounds { a.0 < length (elements_of elements.now).names }
-    ensures { (b : ℕ) → same_key (item_name (fixed_in deck.now schema.now elements.now) (model_of model.now) a.0) (item_name (fixed_in deck.now schema.now elements.now) (model_of model.now) b) ≡ false → Acts (length (elements_of elements.now).names) result (calc_identifiables_merge (fixed_in deck.now schema.now elements.now) (model_of model.now) splittable second.now a.0 b) }
+    requires listed { Listed (element_count tables.now) second.now }
+    requires key_marks { KeyMarks (item_name (fixed_of tables.now) (model_in tables.now)) second.now names.now }
+    requires a_in_bounds { a.0 < element_count tables.now }
+    ensures { (b : ℕ) → same_key (item_name (fixed_of tables.now) (model_in tables.now) a.0) (item_name (fixed_of tables.now) (model_in tables.now) b) ≡ false → Acts (element_count tables.now) result (calc_identifiables_merge (fixed_of tables.now) (model_in tables.now) splittable second.now a.0 b) }
 {
-    let key = key_of(deck, schema, elements, model, true, a);
-    let found = sibling(deck, schema, elements, model, true, second, names, a, key);
+    let key = key_of(tables, true, a);
+    let found = sibling(tables, true, second, names, a, key);
     match found {
         Some(c) => Action::MergeUnequal(c),
         None => {
@@ -169,34 +139,14 @@ fn calc_identifiables_merge(
 }
 
 // Names equal and keys different, A not identifiable.
-fn calc_element_merge(
-    deck: &[u8],
-    schema: &[u64],
-    elements: &[u64],
-    model: &[u64],
-    second: &[u16],
-    definitions: &[u16],
-    a: Element,
-) -> Action
-    requires good_fixed { GoodFixed deck.now schema.now elements.now }
-    requires model_over { ModelOver elements.now model.now }
-    requires listed { Listed (length (elements_of elements.now).names) second.now }
-    requires key_marks { KeyMarks (definition (fixed_in deck.now schema.now elements.now) (model_of model.now)) second.now definitions.now }
-    requires a_in_bounds { a.0 < length (elements_of elements.now).names }
-    ensures { (b : ℕ) → same_key (definition (fixed_in deck.now schema.now elements.now) (model_of model.now) a.0) (definition (fixed_in deck.now schema.now elements.now) (model_of model.now) b) ≡ false → Acts (length (elements_of elements.now).names) result (calc_element_merge (fixed_in deck.now schema.now elements.now) (model_of model.now) second.now a.0 b) }
+fn calc_element_merge(tables: &Tables, second: &[u16], definitions: &[u16], a: Element) -> Action
+    requires listed { Listed (element_count tables.now) second.now }
+    requires key_marks { KeyMarks (definition (fixed_of tables.now) (model_in tables.now)) second.now definitions.now }
+    requires a_in_bounds { a.0 < element_count tables.now }
+    ensures { (b : ℕ) → same_key (definition (fixed_of tables.now) (model_in tables.now) a.0) (definition (fixed_of tables.now) (model_in tables.now) b) ≡ false → Acts (element_count tables.now) result (calc_element_merge (fixed_of tables.now) (model_in tables.now) second.now a.0 b) }
 {
-    let key = key_of(deck, schema, elements, model, false, a);
-    let found = sibling(
-        deck,
-        schema,
-        elements,
-        model,
-        false,
-        second,
-        definitions,
-        a,
-        key,
-    );
+    let key = key_of(tables, false, a);
+    let found = sibling(tables, false, second, definitions, a, key);
     match found {
         Some(c) => Action::MergeUnequal(c),
         None => Action::AOnly,
@@ -205,28 +155,21 @@ fn calc_element_merge(
 
 // Where the cursor children do not decide; `second` are the B parent's children, `names` and `definitions` the marks of their keys.
 pub fn search_action(
-    deck: &[u8],
-    schema: &[u64],
-    elements: &[u64],
-    model: &[u64],
+    tables: &Tables,
     splittable: bool,
     second: &[u16],
     names: &[u16],
     definitions: &[u16],
     a: Element,
 ) -> Action
-    requires good_fixed { GoodFixed deck.now schema.now elements.now }
-    requires model_over { ModelOver elements.now model.now }
-    requires listed { Listed (length (elements_of elements.now).names) second.now }
-    requires key_marks { KeyMarks (item_name (fixed_in deck.now schema.now elements.now) (model_of model.now)) second.now names.now }
-    requires key_marks_2 { KeyMarks (definition (fixed_in deck.now schema.now elements.now) (model_of model.now)) second.now definitions.now }
-    requires a_in_bounds { a.0 < length (elements_of elements.now).names }
-    ensures { Searches (length (elements_of elements.now).names) (fixed_in deck.now schema.now elements.now) (model_of model.now) splittable second.now a.0 result }
+    requires listed { Listed (element_count tables.now) second.now }
+    requires key_marks { KeyMarks (item_name (fixed_of tables.now) (model_in tables.now)) second.now names.now }
+    requires key_marks_2 { KeyMarks (definition (fixed_of tables.now) (model_in tables.now)) second.now definitions.now }
+    requires a_in_bounds { a.0 < element_count tables.now }
+    ensures { Searches (element_count tables.now) (fixed_of tables.now) (model_in tables.now) splittable second.now a.0 result }
 {
-    if is_identifiable(deck, schema, elements, model, a) {
-        return calc_identifiables_merge(
-            deck, schema, elements, model, splittable, second, names, a,
-        );
+    if is_identifiable(tables, a) {
+        return calc_identifiables_merge(tables, splittable, second, names, a);
     }
-    calc_element_merge(deck, schema, elements, model, second, definitions, a)
+    calc_element_merge(tables, second, definitions, a)
 }

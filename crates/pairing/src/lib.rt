@@ -4,6 +4,7 @@
 pub mod action;
 pub mod children;
 pub mod keys;
+pub mod lent;
 pub mod marks;
 pub mod plan;
 pub mod sibling;

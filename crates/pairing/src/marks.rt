@@ -1,14 +1,12 @@
 // Pairing: marks of 16 bits of the keys of B's children, read once for a level. Equal keys have equal marks.
 ghost use Rattle.std.specs.Prelude.{false, ◌≡◌, ◌+◌, ◌-◌, ◌<◌, ◌≤◌, length, get_or, take};
-ghost use Rattle.tables.specs.ElementsTable.{elements_of};
-ghost use Rattle.tables.specs.ModelTable.{model_of};
-ghost use Rattle.state_test.specs.StateTest.{fixed_in};
-ghost use Rattle.table_test.specs.Fits.{GoodFixed, ModelOver};
+ghost use Rattle.pairing.specs.Lent.{fixed_of, model_in, element_count};
 ghost use Rattle.pairing.specs.Actions.{Listed};
 ghost use Rattle.pairing.specs.Keys.{key_is, KeyIn, key_by, key_mark, NoMark};
 ghost use Rattle.pairing.specs.Walks.{second_children, WritesMarks, MarkRoom, Marked};
 
 use crate::keys::{key_of, span_of};
+use crate::lent::Tables;
 use crate::plan::Sides;
 use tables::numbers::Element;
 use tables::text::Place;
@@ -30,52 +28,32 @@ pub fn key_mark(deck: &[u8], key: Option<Place>) -> u16
 }
 
 // The marks of one kind of key of B's children, from the place `to` on.
-fn mark_keys(
-    deck: &[u8],
-    schema: &[u64],
-    elements: &[u64],
-    model: &[u64],
-    by_name: bool,
-    work: &mut [u16],
-    s: Sides,
-    to: usize,
-)
-    requires good_fixed { GoodFixed deck.now schema.now elements.now }
-    requires model_over { ModelOver elements.now model.now }
-    requires listed { Listed (length (elements_of elements.now).names) (second_children s work.old) }
+fn mark_keys(tables: &Tables, by_name: bool, work: &mut [u16], s: Sides, to: usize)
+    requires listed { Listed (element_count tables.now) (second_children s work.old) }
     requires start_le_end { (s.start ≤ s.end) × (s.end ≤ to) × (to + (s.end - s.start) ≤ length work.old) }
-    ensures { WritesMarks (key_by by_name (fixed_in deck.now schema.now elements.now) (model_of model.now)) s to work.old work.new }
+    ensures { WritesMarks (key_by by_name (fixed_of tables.now) (model_in tables.now)) s to work.old work.new }
 {
     let start = s.start;
     let n = s.end - start;
     for k in 0..n {
         let b = Element(work[start + k] as usize);
-        let key = key_of(deck, schema, elements, model, by_name, b);
+        let key = key_of(tables, by_name, b);
         let at = to + k;
-        work[at] = key_mark(deck, key);
+        work[at] = key_mark(tables.deck, key);
     }
 }
 
 // The marks of the item names of B's children behind their numbers, and behind these the marks of their definitions.
-pub fn mark_children(
-    deck: &[u8],
-    schema: &[u64],
-    elements: &[u64],
-    model: &[u64],
-    work: &mut [u16],
-    s: Sides,
-)
-    requires good_fixed { GoodFixed deck.now schema.now elements.now }
-    requires model_over { ModelOver elements.now model.now }
-    requires listed { Listed (length (elements_of elements.now).names) (second_children s work.old) }
+pub fn mark_children(tables: &Tables, work: &mut [u16], s: Sides)
+    requires listed { Listed (element_count tables.now) (second_children s work.old) }
     requires mark_room { MarkRoom s work.old }
-    ensures marked { Marked (fixed_in deck.now schema.now elements.now) (model_of model.now) s work.new }
+    ensures marked { Marked (fixed_of tables.now) (model_in tables.now) s work.new }
     ensures work_unchanged { take s.end work.new ≡ take s.end work.old }
 {
     let names = s.end;
     let definitions = names + (names - s.start);
-    mark_keys(deck, schema, elements, model, true, work, s, names);
-    mark_keys(deck, schema, elements, model, false, work, s, definitions);
+    mark_keys(tables, true, work, s, names);
+    mark_keys(tables, false, work, s, definitions);
 }
 
 // Whether the mark is among them. No way out at the first: so the compiler takes several at a time.

@@ -16,10 +16,16 @@ use Rattle.tables.specs.declared.text.Place as code
 use Rattle.tables.proofs.Laws.Texts.{bytes-more, bytes-differ, bytes-end, sizes-differ}
 use Rattle.merge_rules.specs.Pairing.{same_key, sibling}
 use Rattle.std.specs.Prelude.{Some, None}
-use Rattle.pairing.specs.Keys.{Key, key_is, KeyIn, Keys, has_key, span_of, Candidate, CandidateIs, Candidates}
+use Rattle.pairing.specs.declared.lent.Tables.{Tables}
+use Rattle.pairing.specs.Lent.{fixed_of, model_in}
+use Rattle.pairing.specs.Keys.{Key, key_is, KeyIn, Keys, key_by, has_key, span_of, Candidate, CandidateIs, Candidates}
 use Rattle.pairing.proofs.Laws.Keys.{first-yes, first-no}
 
 -- ---- one sibling
+
+-- the element has A's name and A's key
+abbrev pub fits : Tables → Bool → ℕ → Key → ℕ → Bool
+fits x by_name n key = has_key (fixed_of x) (key_by by_name (fixed_of x) (model_in x)) n (key_is x.deck.now key)
 
 module _ (x : Fixed) (key : Element → Option (List ℕ)) (n : ℕ) (k : Key) (b : ℕ) {name : ℕ} (en : name ≡ name_of x b) where
   module _ (same : name ≡ n) {j : Key} (f : Keys x.deck j (key b)) where

@@ -1,20 +1,19 @@
-use Rattle.tables.specs.ModelTable.{model_of}
 use Rattle.schema_calls.proofs.Laws.Scans.{found_within}
-use Rattle.state_test.specs.StateTest.{fixed_in}
 use Rattle.pairing.proofs.Laws.Keys.{string-missing, string-found}
+use Rattle.pairing.specs.Lent.{fixed_of, model_in}
 use Rattle.pairing.proofs.keys.sole_string.Goals as goal
 
 pub returns-in_err-t : goal.returns-in_err-t
 returns-in_err-t c =
-    let x = fixed_in c.args.deck.now c.args.schema.now c.args.elements.now in
-    let m = model_of c.args.model.now in
+    let x = fixed_of c.args.tables.now in
+    let m = model_in c.args.tables.now in
     rw c.from_residual.ensures (string-missing x m c.args.e.0 c.sole_text.ensures c.in_err-t.was)
 
 pub string_key-requires : goal.string_key-requires
-string_key-requires c = record { good_fixed = c.requires.good_fixed; t_in_bounds = found_within c.sole_text.ensures c.in_ok-t.was }
+string_key-requires c = found_within c.sole_text.ensures c.in_ok-t.was
 
 pub returns : goal.returns
 returns c =
-    let x = fixed_in c.args.deck.now c.args.schema.now c.args.elements.now in
-    let m = model_of c.args.model.now in
+    let x = fixed_of c.args.tables.now in
+    let m = model_in c.args.tables.now in
     string-found x m c.args.e.0 c.sole_text.ensures c.in_ok-t.was c.string_key.ensures

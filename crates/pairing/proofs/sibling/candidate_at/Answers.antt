@@ -1,41 +1,40 @@
-use Rattle.tables.specs.ModelTable.{model_of}
-use Rattle.state_test.specs.StateTest.{fixed_in}
 use Rattle.pairing.specs.Keys.{key_by}
 use borrow.Author.Rules.{rules}
 use Rattle.pairing.proofs.Laws.Siblings.{both-missing, key-for-missing, missing-for-key, sizes-equal, sizes-unequal}
+use Rattle.pairing.specs.Lent.{fixed_of, model_in}
 use Rattle.pairing.proofs.sibling.candidate_at.Goals as goal
 
 pub returns-then-q-p : goal.returns-then-q-p
 returns-then-q-p c =
-    let x = fixed_in c.args.deck.now c.args.schema.now c.args.elements.now in
-    let m = model_of c.args.model.now in
+    let x = fixed_of c.args.tables.now in
+    let m = model_in c.args.tables.now in
     let key = key_by c.args.by_name x m in
     sizes-equal x key c.args.n.0 c.args.key c.args.b.0 c.element_name-m.ensures (search rules) c.key_of-k.ensures c.in-Some-Some.is-0 c.in-Some-Some.is-1 c.if-q-p.true
 
 pub returns-else-q-p : goal.returns-else-q-p
 returns-else-q-p c =
-    let x = fixed_in c.args.deck.now c.args.schema.now c.args.elements.now in
-    let m = model_of c.args.model.now in
+    let x = fixed_of c.args.tables.now in
+    let m = model_in c.args.tables.now in
     let key = key_by c.args.by_name x m in
     sizes-unequal x key c.args.n.0 c.args.key c.args.b.0 c.element_name-m.ensures (search rules) c.key_of-k.ensures c.in-Some-Some.is-0 c.in-Some-Some.is-1 c.if-q-p.false c.requires.key_in
 
 pub returns-in-None-None : goal.returns-in-None-None
 returns-in-None-None c =
-    let x = fixed_in c.args.deck.now c.args.schema.now c.args.elements.now in
-    let m = model_of c.args.model.now in
+    let x = fixed_of c.args.tables.now in
+    let m = model_in c.args.tables.now in
     let key = key_by c.args.by_name x m in
     both-missing x key c.args.n.0 c.args.key c.args.b.0 c.element_name-m.ensures (search rules) c.key_of-k.ensures c.in-None-None.is-0 c.in-None-None.is-1
 
 pub returns-in_default : goal.returns-in_default
 returns-in_default c =
-    let x = fixed_in c.args.deck.now c.args.schema.now c.args.elements.now in
-    let m = model_of c.args.model.now in
+    let x = fixed_of c.args.tables.now in
+    let m = model_in c.args.tables.now in
     let key = key_by c.args.by_name x m in
     key-for-missing x key c.args.n.0 c.args.key c.args.b.0 c.element_name-m.ensures (search rules) c.key_of-k.ensures c.in_default.is-0 c.in_default.is-1
 
 pub returns-in_default-2 : goal.returns-in_default-2
 returns-in_default-2 c =
-    let x = fixed_in c.args.deck.now c.args.schema.now c.args.elements.now in
-    let m = model_of c.args.model.now in
+    let x = fixed_of c.args.tables.now in
+    let m = model_in c.args.tables.now in
     let key = key_by c.args.by_name x m in
     missing-for-key x key c.args.n.0 c.args.key c.args.b.0 c.element_name-m.ensures (search rules) c.key_of-k.ensures c.in_default.is-0 c.in_default.is-1

@@ -2,27 +2,25 @@ use mathlib.Core.Bool.{false≢true}
 use mathlib.Core.Path.{◌≡◌, refl, ◌∙◌}
 use native.Mathlib.Omega.{arith}
 use lib.ListN.{length}
-use Rattle.tables.specs.ElementsTable.{elements_of}
-use Rattle.tables.specs.ModelTable.{model_of}
-use Rattle.state_test.specs.StateTest.{fixed_in}
 use Rattle.merge_rules.specs.Pairing.{action_of}
 use Rattle.pairing.specs.Walks.{second_children}
 use Rattle.pairing.proofs.Laws.Levels.{step_in, walk_start, walk_turn, next-kept, walk_kept, walk_refused, walk-answer}
 use Rattle.pairing.proofs.Laws.Marks.{marked-kept}
 use borrow.Author.Rules.{rules}
+use Rattle.pairing.specs.Lent.{fixed_of, model_in, element_count}
 use Rattle.pairing.proofs.walk.walk.Goals as goal
 
 pub loop-c-init : goal.loop-c-init
 loop-c-init c =
-    let x = fixed_in c.args.deck.now c.args.schema.now c.args.elements.now in
-    let m = model_of c.args.model.now in
+    let x = fixed_of c.args.tables.now in
+    let m = model_in c.args.tables.now in
     let act = action_of x m c.args.t.0 c.args.splittable in
-    let n = length (elements_of c.args.elements.now).names in
+    let n = element_count c.args.tables.now in
     (walk_start act n c.args.s c.args.work.now c.requires.work_room c.requires.ranged, (λ e. absurd (false≢true e)), refl)
 
 pub next_action-next-requires : goal.next_action-next-requires
 next_action-next-requires c =
-    let s = c.args.s in record { good_fixed = c.requires.good_fixed; model_over = c.requires.model_over; t_in_bounds = c.requires.t_in_bounds; work_room = c.loop-c.invariant.0.room; ranged = c.loop-c.invariant.0.ranged; marked_if = c.loop-c.invariant.1; a_lt_rows = c.loop-c-test.true }
+    let s = c.args.s in record { t_in_bounds = c.requires.t_in_bounds; work_room = c.loop-c.invariant.0.room; ranged = c.loop-c.invariant.0.ranged; marked_if = c.loop-c.invariant.1; a_lt_rows = c.loop-c-test.true }
 
 pub shape_of-work-then-eq : goal.shape_of-work-then-eq
 shape_of-work-then-eq c =
@@ -31,18 +29,18 @@ shape_of-work-then-eq c =
 pub returns-then-eq : goal.returns-then-eq
 returns-then-eq c =
     let s = c.args.s in
-    let x = fixed_in c.args.deck.now c.args.schema.now c.args.elements.now in
-    let m = model_of c.args.model.now in
+    let x = fixed_of c.args.tables.now in
+    let m = model_in c.args.tables.now in
     let act = action_of x m c.args.t.0 c.args.splittable in
-    let n = length (elements_of c.args.elements.now).names in record { work_after = walk_refused act n s c.args.work.now c.loop-c.work c.loop-c.uses c.loop-c.c.a c.loop-c.c.b c.loop-c.c.new c.loop-c.invariant.0 c.args.end c.next_action-next.result.act c.loop-c-test.true c.next_action-next.ensures.acts (search rules); plan_in = tt }
+    let n = element_count c.args.tables.now in record { work_after = walk_refused act n s c.args.work.now c.loop-c.work c.loop-c.uses c.loop-c.c.a c.loop-c.c.b c.loop-c.c.new c.loop-c.invariant.0 c.args.end c.next_action-next.result.act c.loop-c-test.true c.next_action-next.ensures.acts (search rules); plan_in = tt }
 
 pub advance-c-requires : goal.advance-c-requires
 advance-c-requires c =
     let s = c.args.s in
-    let x = fixed_in c.args.deck.now c.args.schema.now c.args.elements.now in
-    let m = model_of c.args.model.now in
+    let x = fixed_of c.args.tables.now in
+    let m = model_in c.args.tables.now in
     let act = action_of x m c.args.t.0 c.args.splittable in
-    let n = length (elements_of c.args.elements.now).names in
+    let n = element_count c.args.tables.now in
     let size = c.next_action-next.auto.work in
     let l = c.loop-c in
     let next = c.next_action-next in
@@ -57,7 +55,7 @@ advance-c-requires c =
       a_lt_rows = c.loop-c-test.true;
       step_in =
           step_in n (act (second_children s l.work)) s l.work i j new next.result.act
-          c.requires.good_fixed.elements_good.sized.count l.invariant.0.room (search rules) next.ensures.acts;
+          c.args.tables.now.good_fixed.elements_good.sized.count l.invariant.0.room (search rules) next.ensures.acts;
     }
 
 pub loop-c-smaller : goal.loop-c-smaller
@@ -68,10 +66,10 @@ loop-c-smaller c =
 pub loop-c-preserved : goal.loop-c-preserved
 loop-c-preserved c =
     let s = c.args.s in
-    let x = fixed_in c.args.deck.now c.args.schema.now c.args.elements.now in
-    let m = model_of c.args.model.now in
+    let x = fixed_of c.args.tables.now in
+    let m = model_in c.args.tables.now in
     let act = action_of x m c.args.t.0 c.args.splittable in
-    let n = length (elements_of c.args.elements.now).names in
+    let n = element_count c.args.tables.now in
     let size = c.next_action-next.auto.work in
     let k = walk_kept act n s c.args.work.now c.loop-c.work c.loop-c.uses c.loop-c.c.a c.loop-c.c.b c.loop-c.c.new c.loop-c.invariant.0 c.next_action-next.new.work size c.next_action-next.ensures.work_unchanged in
     (walk_turn act n s c.args.work.now c.next_action-next.new.work c.loop-c.uses c.loop-c.c.a c.loop-c.c.b c.loop-c.c.new k c.next_action-next.result.act (next-kept act n s c.args.work.now c.loop-c.work c.loop-c.uses c.loop-c.c.a c.loop-c.c.b c.loop-c.c.new c.loop-c.invariant.0 c.next_action-next.new.work size c.next_action-next.ensures.work_unchanged c.next_action-next.result.act c.next_action-next.ensures.acts) c.advance-c.new.work c.advance-c.new.uses c.advance-c.result c.advance-c.ensures.advances, (λ e. marked-kept x m s c.next_action-next.new.work c.advance-c.new.work (omega (arith, c.loop-c.invariant.0.room.second)) c.advance-c.ensures.advances.behind (c.next_action-next.ensures.marked_if_2 e)), c.advance-c.auto.work ∙ size ∙ c.loop-c.invariant.2)
@@ -99,8 +97,8 @@ shape_of-work c =
 pub returns : goal.returns
 returns c =
     let s = c.args.s in
-    let x = fixed_in c.args.deck.now c.args.schema.now c.args.elements.now in
-    let m = model_of c.args.model.now in
+    let x = fixed_of c.args.tables.now in
+    let m = model_in c.args.tables.now in
     let act = action_of x m c.args.t.0 c.args.splittable in
-    let n = length (elements_of c.args.elements.now).names in
+    let n = element_count c.args.tables.now in
     let all : c.loop-c.c.a ≡ s.rows = omega (arith, c.loop-c.invariant.0.room.first, c.loop-c-test.false) in record { work_after = walk-answer act n s c.args.work.now c.loop-c.work c.loop-c.uses c.loop-c.c.a c.loop-c.c.b c.loop-c.c.new c.loop-c.invariant.0 c.args.end c.import_rest-new.new.work c.import_rest-new.new.uses c.import_rest-new.result c.import_rest-new.ensures all c.used_twice.result c.used_twice.ensures.work_value; plan_in = c.used_twice.ensures.by_index n (c.import_rest-new.ensures.ranged n c.requires.end_le_item_limit c.loop-c.invariant.0.ranged).rows }
