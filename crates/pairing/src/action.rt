@@ -60,7 +60,9 @@ fn action_by_path(tables: &Tables, t: TypeNumber, a: Element, b: Element) -> Act
 fn same_element_text(tables: &Tables, a: Element, b: Element) -> bool
     requires a_in_bounds { a.0 < element_count tables.now }
     requires b_in_bounds { b.0 < element_count tables.now }
-    ensures { result ≡ same_texts (fixed_of tables.now) (element_text (fixed_of tables.now) (model_in tables.now) a.0) (element_text (fixed_of tables.now) (model_in tables.now) b.0) }
+    ensures { let x = fixed_of tables.now in
+        let m = model_in tables.now in
+        result ≡ same_texts x (element_text x m a.0) (element_text x m b.0) }
 {
     let first = sole_text(tables, a);
     let second = sole_text(tables, b);
@@ -122,7 +124,10 @@ fn calc_identifiables_merge(
     requires listed { Listed (element_count tables.now) second.now }
     requires key_marks { KeyMarks (item_name (fixed_of tables.now) (model_in tables.now)) second.now names.now }
     requires a_in_bounds { a.0 < element_count tables.now }
-    ensures { (b : ℕ) → same_key (item_name (fixed_of tables.now) (model_in tables.now) a.0) (item_name (fixed_of tables.now) (model_in tables.now) b) ≡ false → Acts (element_count tables.now) result (calc_identifiables_merge (fixed_of tables.now) (model_in tables.now) splittable second.now a.0 b) }
+    ensures { let x = fixed_of tables.now in
+        let m = model_in tables.now in
+        (b : ℕ) → same_key (item_name x m a.0) (item_name x m b) ≡ false
+        → Acts (element_count tables.now) result (calc_identifiables_merge x m splittable second.now a.0 b) }
 {
     let key = key_of(tables, true, a);
     let found = sibling(tables, true, second, names, a, key);
@@ -143,7 +148,10 @@ fn calc_element_merge(tables: &Tables, second: &[u16], definitions: &[u16], a: E
     requires listed { Listed (element_count tables.now) second.now }
     requires key_marks { KeyMarks (definition (fixed_of tables.now) (model_in tables.now)) second.now definitions.now }
     requires a_in_bounds { a.0 < element_count tables.now }
-    ensures { (b : ℕ) → same_key (definition (fixed_of tables.now) (model_in tables.now) a.0) (definition (fixed_of tables.now) (model_in tables.now) b) ≡ false → Acts (element_count tables.now) result (calc_element_merge (fixed_of tables.now) (model_in tables.now) second.now a.0 b) }
+    ensures { let x = fixed_of tables.now in
+        let m = model_in tables.now in
+        (b : ℕ) → same_key (definition x m a.0) (definition x m b) ≡ false
+        → Acts (element_count tables.now) result (calc_element_merge x m second.now a.0 b) }
 {
     let key = key_of(tables, false, a);
     let found = sibling(tables, false, second, definitions, a, key);

@@ -34,7 +34,9 @@ fn candidate_at(
 ) -> Option<usize>
     requires key_in { KeyIn tables.now.deck.now key }
     requires b_in_bounds { b.0 < element_count tables.now }
-    ensures { Candidates tables.now.deck.now (span_of key) (has_key (fixed_of tables.now) (key_by by_name (fixed_of tables.now) (model_in tables.now)) n.0 (key_is tables.now.deck.now key) b.0) result }
+    ensures { let x = fixed_of tables.now in
+        let key_in = key_by by_name x (model_in tables.now) in
+        Candidates x.deck (span_of key) (has_key x key_in n.0 (key_is x.deck key) b.0) result }
 {
     let m = element_name(tables.elements, b);
     if m != n {
@@ -67,7 +69,8 @@ pub fn sibling(
     requires key_marks { KeyMarks (key_by by_name (fixed_of tables.now) (model_in tables.now)) second.now marks.now }
     requires a_in_bounds { a.0 < element_count tables.now }
     requires keys { Keys tables.now.deck.now key (key_by by_name (fixed_of tables.now) (model_in tables.now) a.0) }
-    ensures { FindsChild (element_count tables.now) result (sibling (fixed_of tables.now) (key_by by_name (fixed_of tables.now) (model_in tables.now)) second.now a.0) }
+    ensures { let x = fixed_of tables.now in
+        FindsChild (element_count tables.now) result (sibling x (key_by by_name x (model_in tables.now)) second.now a.0) }
 {
     let n = element_name(tables.elements, a);
     let deck = tables.deck;

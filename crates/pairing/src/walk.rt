@@ -90,7 +90,9 @@ fn next_action(
     requires ranged { Ranged (element_count tables.now) s work.old c.new }
     requires marked_if { MarkedIf marked (fixed_of tables.now) (model_in tables.now) s work.old }
     requires a_lt_rows { c.a < s.rows }
-    ensures acts { Acts (element_count tables.now) result.act (next_action (action_of (fixed_of tables.now) (model_in tables.now) t.0 splittable (second_children s work.old)) (first_children s work.old) (second_children s work.old) c.a c.b) }
+    ensures acts { let bs = second_children s work.old in
+        let act = action_of (fixed_of tables.now) (model_in tables.now) t.0 splittable bs in
+        Acts (element_count tables.now) result.act (next_action act (first_children s work.old) bs c.a c.b) }
     ensures marked_if_2 { MarkedIf result.marked (fixed_of tables.now) (model_in tables.now) s work.new }
     ensures work_unchanged { take s.end work.new ≡ take s.end work.old }
 {
@@ -127,7 +129,9 @@ fn walk(
     requires work_room { WorkRoom s work.old 0 0 0 }
     requires ranged { Ranged (element_count tables.now) s work.old 0 }
     requires end_le_item_limit { end ≤ item_limit }
-    ensures work_after { planned_is result work.new ≡ checked_plan (second_children s work.old) (walk_on (action_of (fixed_of tables.now) (model_in tables.now) t.0 splittable (second_children s work.old)) end 0 (first_children s work.old) (second_children s work.old) []) }
+    ensures work_after { let bs = second_children s work.old in
+        let act = action_of (fixed_of tables.now) (model_in tables.now) t.0 splittable bs in
+        planned_is result work.new ≡ checked_plan bs (walk_on act end 0 (first_children s work.old) bs []) }
     ensures plan_in { PlanIn (element_count tables.now) result work.new }
 {
     let mut uses = [Use::Unused; 1024];

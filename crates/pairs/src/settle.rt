@@ -7,16 +7,18 @@ ghost use Rattle.tables.specs.LogTable.{GoodLog};
 ghost use Rattle.tables.specs.ModelTable.{count_of, model_of, GoodModel};
 ghost use Rattle.tables.specs.SchemaTable.{schema_of, GoodSchema};
 ghost use Rattle.tables.specs.SetCells.{set_is};
-ghost use Rattle.table_test.specs.Fits.{GoodFixed, ModelOver, StateOver, KeepsState};
+ghost use Rattle.table_test.specs.Fits.{GoodFixed, StateOver, KeepsState};
 ghost use Rattle.state_test.specs.StateTest.{fixed_in, state_in};
 ghost use Rattle.merge_rules.specs.Level.{files_of_pair, extend_pair, keyed, place_behind, import_instead, fall_back, settle_conflict, settle};
 ghost use Rattle.merge_log.specs.Answers.{outcome_is};
+ghost use Rattle.pairing.specs.Lent.{fixed_of, model_in, element_count};
 
 use imports::import::{clamp, import_at};
 use insert_range::range::calc_element_insert_range;
 use merge_log::log::{extend, place_of, restrict, rollback_merge};
 use merge_log::refusals::{Halt, Refusal};
 use pairing::keys::{definition_child, is_identifiable};
+use pairing::lent::Tables;
 use schema_calls::calls::splittable_in;
 use tables::elements::{element_name, element_type};
 use tables::file_set::FileSet;
@@ -58,16 +60,14 @@ pub fn extend_pair(
 }
 
 // Identifiable, or with a DEFINITION-REF child.
-fn is_keyed(deck: &[u8], schema: &[u64], elements: &[u64], model: &[u64], a: Element) -> bool
-    requires good_fixed { GoodFixed deck.now schema.now elements.now }
-    requires model_over { ModelOver elements.now model.now }
-    requires a_in_bounds { a.0 < length (elements_of elements.now).names }
-    ensures { result ≡ keyed (fixed_in deck.now schema.now elements.now) (model_of model.now) a.0 }
+fn is_keyed(tables: &Tables, a: Element) -> bool
+    requires { a.0 < element_count tables.now }
+    ensures { result ≡ keyed (fixed_of tables.now) (model_in tables.now) a.0 }
 {
-    if is_identifiable(deck, schema, elements, model, a) {
+    if is_identifiable(tables, a) {
         return true;
     }
-    definition_child(deck, schema, elements, model, a).is_some()
+    definition_child(tables, a).is_some()
 }
 
 // A's first place in the list of p, 0 if none, and 1.
@@ -174,7 +174,13 @@ fn settle_conflict(
     ensures log_after { outcome_is result (state_in model.new log.new) ≡ settle_conflict (fixed_in deck.now schema.now elements.now) f.0 v p.0 (record { a = a.0; b = b.0 }) (set_is files) mark e.0 (state_in model.old log.old) }
     ensures keeps_state { KeepsState model.old log.old model.new log.new }
 {
-    if is_keyed(deck, schema, elements, model, a) {
+    let tables = Tables {
+        deck,
+        schema,
+        elements,
+        model,
+    };
+    if is_keyed(&tables, a) {
         return Err(Halt::Refused(Refusal::Unmergeable(e)));
     }
     let t = element_type(elements, p);
