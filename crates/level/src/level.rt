@@ -21,6 +21,7 @@ ghost use Rattle.level.specs.Level.{restrict_new, apply_plan, merge_pair, Bare};
 use imports::import::import_new_items;
 use merge_log::log::restrict;
 use merge_log::refusals::{Halt, Refusal};
+use pairing::lent::Tables;
 use pairing::plan::Unplanned;
 use pairing::walk::plan_level;
 use pairs::settle::{extend_pair, files_of_pair, settle};
@@ -212,7 +213,13 @@ fn merge_element(
     if depth == 0 {
         return Err(Halt::Refused(Refusal::Unmergeable(a)));
     }
-    let rows = match plan_level(deck, schema, elements, model, v, a, b, work) {
+    let tables = Tables {
+        deck,
+        schema,
+        elements,
+        model,
+    };
+    let rows = match plan_level(&tables, v, a, b, work) {
         Ok(rows) => rows,
         Err(Unplanned::UsedTwice(c)) => return Err(Halt::Refused(Refusal::UsedTwice(c))),
         Err(Unplanned::Unmergeable) => return Err(Halt::Refused(Refusal::Unmergeable(a))),
