@@ -12,10 +12,10 @@ use lib.ListN.{length, get_or, drop, drop_of_length-le}
 use lib.Seq.{drop-cons}
 use Rattle.tables.specs.Lists.{first_of}
 use Rattle.tables.specs.Records.{Element, Text, enum_number, string, whole_number, float, Item, child, text, Model, Fixed, type_row, name_of, type_of, text_of, list_of}
-use Rattle.tables.specs.ElementsTable.{elements_of, GoodElements, TextFits}
+use Rattle.tables.specs.ElementsTable.{elements_of}
 use Rattle.tables.specs.ModelTable.{item_is, flat, start_of, count_of, model_of, ItemBelow}
 use Rattle.tables.specs.SchemaTable.{schema_of}
-use Rattle.tables.specs.Texts.{text_kind, text_value, text_from, value_of, bytes_at, place_of, place_in, text_in}
+use Rattle.tables.specs.Texts.{value_of, bytes_at, place_of, place_in, text_in}
 use Rattle.tables.specs.declared.model.Item as program
 use Rattle.tables.specs.declared.model.Item.TheVariants.{Child as ChildItem, Text as TextItem}
 use Rattle.tables.specs.declared.numbers.Element as numbers
@@ -23,7 +23,6 @@ use Rattle.tables.specs.declared.text.Place as code
 use Rattle.tables.specs.declared.text.Text as code_text
 use Rattle.tables.specs.declared.text.Text.TheVariants.{Number, Str, Whole}
 use Rattle.tables.proofs.Laws.Cells.{each-get_d}
-use Rattle.tables.proofs.Laws.ElementsTable.{text-back}
 use Rattle.tables.proofs.Laws.Lists.{get_d-flat}
 use Rattle.tables.proofs.Laws.ModelTable.{item-below, listed_below, start-room, total-flat}
 use Rattle.table_test.specs.ElementsTest.{TextIn}

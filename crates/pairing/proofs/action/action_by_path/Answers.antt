@@ -1,4 +1,3 @@
-use lib.ListN.{length}
 use Rattle.pairing.proofs.Laws.Actions.{path-less, path-equal, path-greater}
 use Rattle.pairing.specs.Lent.{fixed_of, element_count}
 use Rattle.pairing.proofs.action.action_by_path.Goals as goal

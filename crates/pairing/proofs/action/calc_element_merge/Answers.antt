@@ -1,4 +1,3 @@
-use lib.ListN.{length}
 use Rattle.pairing.proofs.Laws.Actions.{defined-sibling, defined-none}
 use Rattle.pairing.specs.Lent.{fixed_of, model_in, element_count}
 use Rattle.pairing.proofs.action.calc_element_merge.Goals as goal

@@ -1,4 +1,3 @@
-use lib.ListN.{length}
 use Rattle.pairing.proofs.Laws.Actions.{named-sibling, named-split, named-unmergeable}
 use Rattle.pairing.specs.Lent.{fixed_of, model_in, element_count}
 use Rattle.pairing.proofs.action.calc_identifiables_merge.Goals as goal

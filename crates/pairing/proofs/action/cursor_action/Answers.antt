@@ -1,5 +1,4 @@
 use mathlib.Core.Path.{refl, sym, ◌∙◌}
-use lib.ListN.{length}
 use borrow.Author.Rules.{rules}
 use Rattle.pairing.proofs.Laws.Actions.{decide-path, decide-search, decide-named, decide-texts, decide-first}
 use Rattle.pairing.specs.Lent.{fixed_of, model_in, element_count}

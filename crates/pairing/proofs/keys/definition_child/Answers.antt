@@ -1,4 +1,3 @@
-use lib.ListN.{length}
 use Rattle.pairing.proofs.Laws.Keys.{child-in, definition-start, definition-end, definition-text, definition-other, definition-is}
 use borrow.Author.Rules.{rules}
 use Rattle.pairing.specs.Lent.{fixed_of, model_in, element_count}

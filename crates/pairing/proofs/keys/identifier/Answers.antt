@@ -1,4 +1,3 @@
-use lib.ListN.{length}
 use Rattle.pairing.proofs.Laws.Keys.{child-in, identifier-unnamed, identifier-empty, identifier-text, identifier-other, identifier-is}
 use borrow.Author.Rules.{rules}
 use Rattle.pairing.specs.Lent.{fixed_of, model_in, element_count}

@@ -1,7 +1,6 @@
 use mathlib.Core.Bool.{false≢true}
 use mathlib.Core.Path.{◌≡◌, refl, ◌∙◌}
 use native.Mathlib.Omega.{arith}
-use lib.ListN.{length}
 use Rattle.merge_rules.specs.Pairing.{action_of}
 use Rattle.pairing.specs.Walks.{second_children}
 use Rattle.pairing.proofs.Laws.Levels.{step_in, walk_start, walk_turn, next-kept, walk_kept, walk_refused, walk-answer}

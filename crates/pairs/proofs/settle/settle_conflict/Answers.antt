@@ -5,6 +5,9 @@ use Rattle.pairing.proofs.Laws.Keys.{element-type-in}
 use Rattle.pairs.proofs.Laws.Settle.{conflict-keyed, conflict-up, conflict-falls}
 use Rattle.pairs.proofs.settle.settle_conflict.Goals as goal
 
+pub invariant_of-tables : goal.invariant_of-tables
+invariant_of-tables c = record { good_fixed = c.requires.good_fixed; model_over = c.requires.state_over.model_fits }
+
 pub returns-then-is_keyed : goal.returns-then-is_keyed
 returns-then-is_keyed c =
     let x = fixed_in c.args.deck.now c.args.schema.now c.args.elements.now in record { log_after = conflict-keyed x c.args.f.0 c.args.v c.args.p.0 (record { a = c.args.a.0; b = c.args.b.0 }) (set_is c.args.files) c.args.mark c.args.e.0 (state_in c.args.model.now c.args.log.now) c.is_keyed.ensures c.if-is_keyed.true; keeps_state = λ n texts s. s }
