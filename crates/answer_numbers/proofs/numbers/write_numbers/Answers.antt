@@ -6,4 +6,4 @@ returns-then-answer-ne-ANSWER_SIZE c = wrong_size c.args.answer.now _ _ c.if-ans
 
 pub returns : goal.returns
 returns c =
-    filled c.args.answer.now c.if-answer-ne-ANSWER_SIZE.false c.args.n c.copy_from_slice.ensures
+    filled c.args.answer.now c.if-answer-ne-ANSWER_SIZE.false c.args.n c.copy_from_slice.ensures.after
