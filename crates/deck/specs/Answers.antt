@@ -21,7 +21,6 @@ use Rattle.deck.specs.declared.lines.RowCells.{RowCells}
 use Rattle.deck.specs.declared.lines.FileCells.{FileCells}
 use Rattle.deck.specs.declared.lines.Line as program
 use Rattle.deck.specs.declared.lines.Line.TheVariants.{T, G, S, F, M, B, E, C}
-use Rattle.deck.specs.declared.lines.TextCells.{TextCells}
 use Rattle.deck.specs.declared.reader.NextLine.{NextLine}
 
 -- ---- places

@@ -78,15 +78,21 @@ pub fn places(f: Fields, i: usize) -> Span
     if i < f.count { f.spans[i] } else { NO_BYTES }
 }
 
+// The bytes of field i.
+pub fn bytes_of(deck: &[u8], f: Fields, i: usize) -> &[u8]
+    requires { Placed deck.now f }
+    ensures { result.now ≡ (field (fields_of deck.now f) i).bytes }
+{
+    let p = places(f, i);
+    &deck[p.start..p.end]
+}
+
 // Field i as a number.
 pub fn number_at(deck: &[u8], f: Fields, i: usize, radix: u64, most: u64) -> Option<u64>
     requires { Placed deck.now f × (0 < radix) }
     ensures { num_is result ≡ number radix most (field (fields_of deck.now f) i) }
 {
-    let p = places(f, i);
-    let a = p.start;
-    let e = p.end;
-    number(&deck[a..e], radix, most)
+    number(bytes_of(deck, f, i), radix, most)
 }
 
 // The one byte of field i.
@@ -94,10 +100,10 @@ fn letter_at(deck: &[u8], f: Fields, i: usize) -> Option<u8>
     requires { Placed deck.now f }
     ensures { num_is result ≡ letter (field (fields_of deck.now f) i) }
 {
-    let p = places(f, i);
-    let a = p.start;
-    let e = p.end;
-    if e - a == 1 { Some(deck[a]) } else { None }
+    match bytes_of(deck, f, i) {
+        [b] => Some(*b),
+        _ => None,
+    }
 }
 
 // Field i as a path.
@@ -106,9 +112,7 @@ fn path_at(deck: &[u8], f: Fields, i: usize, most: usize) -> Option<Path>
     ensures { PathReads result (path_field most (field (fields_of deck.now f) i)) }
 {
     let p = places(f, i);
-    let a = p.start;
-    let e = p.end;
-    path_field(deck, a, e, most)
+    path_field(deck, p.start, p.end, most)
 }
 
 // Fields 2 and 3 as a text.
@@ -118,9 +122,7 @@ fn text_at(deck: &[u8], f: Fields) -> Option<StoredText>
 {
     let kind = letter_at(deck, f, 2)?;
     let p = places(f, 3);
-    let a = p.start;
-    let e = p.end;
-    text_field(deck, kind, a, e)
+    text_field(deck, kind, p.start, p.end)
 }
 
 // A T line: mode as its number.

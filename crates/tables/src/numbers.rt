@@ -4,6 +4,9 @@
 #[derive(Clone, Copy, PartialEq, Eq)]
 pub struct Element(pub usize);
 
+// The model's root.
+pub const ROOT: Element = Element(0);
+
 #[derive(Clone, Copy, PartialEq, Eq)]
 pub struct Name(pub u64);
 

@@ -14,6 +14,17 @@ use crate::limits::{FILE_LIMIT, GROUP_LIMIT, ROW_LIMIT, TYPE_LIMIT};
 use crate::numbers::{FileNumber, Name, TypeNumber};
 use crate::path::Path;
 
+// Modes. They are numbers, as in a table's cells: the rules of the merge are a match over mode numbers.
+pub const SEQUENCE: u64 = 0;
+
+pub const CHOICE: u64 = 1;
+
+pub const BAG: u64 = 2;
+
+pub const MIXED: u64 = 3;
+
+pub const CHARACTERS: u64 = 4;
+
 // How often an element may stand in a list. The cells and the deck have these as numbers, in this order.
 #[derive(Clone, Copy, PartialEq, Eq)]
 pub enum Mult {

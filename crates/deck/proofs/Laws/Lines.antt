@@ -3,7 +3,7 @@ use mathlib.Core.Bool.{Bool, true, false}
 use mathlib.Core.List.{List, [], ◌∷◌, ◌++◌, map, append_assoc}
 use mathlib.Core.Option.{none, some, bind}
 use mathlib.Core.Path.{◌≡◌, refl, sym, ◌∙◌, ap}
-use Prim.Native.Nat.{ℕ, zero, suc, ◌+◌, ◌-◌, ◌≤◌, ◌<◌}
+use Prim.Native.Nat.{ℕ, suc, ◌+◌, ◌≤◌, ◌<◌}
 use native.Mathlib.Numerals.{add-one}
 use native.Mathlib.Omega.{arith}
 use borrow.Author.Count.{below_more}
@@ -18,7 +18,7 @@ use Rattle.deck.specs.declared.lines.Span.{Span}
 use Rattle.tables.specs.Cells.{between}
 use Rattle.deck.specs.Answers.{part_at, Next, span_part, fields_of, no_bytes, Ordered, Placed, Splits, SpanOf}
 use Rattle.deck.proofs.Laws.Letters.{letter-alike}
-use Rattle.deck.proofs.Laws.Parts.{next-part, last-part, between_cons, length-between}
+use Rattle.deck.proofs.Laws.Parts.{next-part, last-part}
 
 -- ---- a line split at its commas
 
@@ -89,10 +89,17 @@ module _ (deck : List ℕ) (l : List Part) (end : ℕ) (ss : List Span) (n at e 
 
 -- ---- the one byte of a field
 
-no-letter : (start : ℕ) (bs : List ℕ) → (length bs ≡ 1 → ⊥) → letter (record { start = start; bytes = bs }) ≡ none
+pub letter-one : (p : Part) (bs : List ℕ) → bs ≡ p.bytes → length bs ≡ 1 → letter p ≡ some (get_or bs 0 0)
 unfolding letter only
-no-letter start [] n = refl
-no-letter start (b ∷ bs) n = rw (letter, ne_eqb (length bs) 0 (λ e. n (ap suc e)))
+letter-one p [] e h = absurd (omega (arith, h))
+letter-one p (b ∷ bs) e h =
+    let z : length bs ≡ 0 = omega (arith, h) in
+    rw (letter, ← e, z) refl
+
+pub letter-not : (p : Part) (bs : List ℕ) → bs ≡ p.bytes → (length bs ≡ 1 → ⊥) → letter p ≡ none
+unfolding letter only
+letter-not p [] e n = rw (letter, ← e) refl
+letter-not p (b ∷ bs) e n = rw (letter, ← e, ne_eqb (length bs) 0 (λ h. n (ap suc h))) refl
 
 -- ---- a field by its places
 
@@ -120,19 +127,6 @@ span-some deck f i w h = record { ordered = (w.each i h).0; within = (w.each i h
 pub span_none : (deck : List ℕ) (f : Fields) (i : ℕ) → Placed deck f → f.count ≤ i
     → SpanOf deck (field (fields_of deck f) i) no_bytes
 span_none deck f i w h = record { ordered = omega arith; within = omega arith; is = field-none deck f i w h }
-
-module _ (deck : List ℕ) (start end : ℕ) (fits : end ≤ length deck) where
-  pub letter-one : end - start ≡ 1 → letter (part_at deck start end) ≡ some (get_or deck start 0)
-  unfolding letter only
-  letter-one h =
-      let z : end - (start + 1) ≡ 0 = omega arith in
-      rw (letter, between_cons deck start end (omega arith) fits, z)
-
-  pub letter-not : (end - start ≡ 1 → ⊥) → letter (part_at deck start end) ≡ none
-  letter-not h = go (between start end deck) (λ e. h (sym (length-between deck start end fits) ∙ e))
-    where
-      go : (bs : List ℕ) → (length bs ≡ 1 → ⊥) → letter (record { start = start; bytes = bs }) ≡ none
-      go bs n = no-letter start bs n
 
 -- ---- the first 8 fields make the line
 

@@ -3,7 +3,7 @@ use mathlib.Core.Bool.{true, false}
 use mathlib.Core.List.{List}
 use mathlib.Core.Option.{none, some, bind}
 use mathlib.Core.Path.{◌≡◌, refl}
-use Prim.Native.Nat.{ℕ, ◌+◌, ◌-◌, ◌*◌, ◌/◌, ◌%◌, ◌≤◌, ◌<◌}
+use Prim.Native.Nat.{ℕ, ◌-◌, ◌≤◌, ◌<◌}
 use native.Mathlib.Omega.{arith}
 use borrow.Author.Tests.{le-leb, lt-leb}
 use lib.ListN.{length}
@@ -11,7 +11,7 @@ use Rattle.tables.specs.Lists.{all_of, first_of}
 use Rattle.tables.specs.Records.{enum_number, string, whole_number, float}
 use Rattle.deck.specs.Deck.{only, number, decimal, hexadecimal, printable, by_letter, texts, text_e, text_s, text_u, text_f}
 use Rattle.tables.specs.Cells.{between}
-use Rattle.tables.specs.Limits.{deck_limit, enum_limit, string_limit}
+use Rattle.tables.specs.Limits.{deck_limit, enum_limit}
 use Rattle.deck.specs.Answers.{whole, part_at}
 use Rattle.deck.proofs.Laws.Parts.{length-between}
 

@@ -1,6 +1,5 @@
 use mathlib.Core.Path.{◌≡◌}
-use Prim.Native.Nat.{◌-◌}
-use lib.ListN.{length, drop}
+use lib.ListN.{drop}
 use Rattle.tables.specs.Lists.{all_of}
 use Rattle.deck.specs.Deck.{printable}
 use Rattle.deck.proofs.fields.all_printable.Given as goal

@@ -1,4 +1,3 @@
-use mathlib.Core.Path.{refl}
 use native.Mathlib.Omega.{arith}
 use Rattle.deck.proofs.Laws.Parts.{reach_here, reach-on, reach-end}
 use Rattle.deck.proofs.fields.find_byte.Goals as goal

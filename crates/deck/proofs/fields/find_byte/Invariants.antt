@@ -1,4 +1,3 @@
-use Prim.Native.Nat.{◌-◌}
 use Rattle.deck.proofs.Laws.Parts.{Seeking}
 use Rattle.deck.proofs.fields.find_byte.Given as goal
 

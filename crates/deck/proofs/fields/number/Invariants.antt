@@ -1,5 +1,3 @@
-use Prim.Native.Nat.{◌-◌}
-use lib.ListN.{length}
 use Rattle.deck.proofs.Laws.Numbers.{NumberReading}
 use Rattle.deck.proofs.fields.number.Given as goal
 

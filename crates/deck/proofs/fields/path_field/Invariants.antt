@@ -1,4 +1,3 @@
-use Prim.Native.Nat.{◌-◌}
 use Rattle.deck.proofs.Laws.PathFields.{PathReading}
 use Rattle.deck.proofs.fields.path_field.Given as goal
 

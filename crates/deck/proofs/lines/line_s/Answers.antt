@@ -3,7 +3,6 @@ use native.Mathlib.Omega.{arith}
 use borrow.Author.Tests.{eq-eqb, ne_eqb, lt-ltb, le-ltb}
 use Rattle.deck.specs.Deck.{only, line_s, type_field, name_field, mult_field, mask_field, decimal, hexadecimal}
 use Rattle.deck.specs.Answers.{num_is, path_is, line_is}
-use Rattle.deck.proofs.Laws.Numbers.{read-most}
 use Rattle.deck.proofs.Laws.Lines.{fields-count}
 use Rattle.deck.proofs.lines.line_s.Goals as goal
 

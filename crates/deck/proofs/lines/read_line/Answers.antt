@@ -1,7 +1,6 @@
 use mathlib.Core.Path.{sym, ◌∙◌, ap}
 use Rattle.deck.specs.Answers.{part_at, num_is, line_is}
 use Rattle.deck.proofs.Laws.Lines.{read-bad, read-kind}
-use borrow.Author.Rules.{rules}
 use Rattle.deck.proofs.lines.read_line.Goals as goal
 
 pub returns-in_err-kind : goal.returns-in_err-kind

@@ -1,6 +1,5 @@
 use mathlib.Core.Option.{bind}
 use mathlib.Core.Path.{◌∙◌, ap}
-use native.Mathlib.Omega.{arith}
 use Rattle.deck.specs.Deck.{by_letter, texts, text_fields}
 use Rattle.deck.specs.Answers.{num_is, text_is}
 use Rattle.deck.proofs.lines.text_at.Goals as goal
