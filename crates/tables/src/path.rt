@@ -30,15 +30,9 @@ impl Path {
     {
         for i in 0..PATH_LIMIT {
             let x = self.part(i);
-            let y = q.part(i);
-            if x < y {
-                return Ordering::Less;
-            }
-            if y < x {
-                return Ordering::Greater;
-            }
-            if x == 0 {
-                return Ordering::Equal;
+            let found = x.cmp(&q.part(i));
+            if found.is_ne() || x == 0 {
+                return found;
             }
         }
         Ordering::Equal
@@ -74,14 +68,5 @@ impl Path {
 fn shares(x: u64, xn: u64, y: u64, yn: u64) -> bool
     ensures { result ≡ shares_part x xn y yn }
 {
-    if x == 0 {
-        return false;
-    }
-    if xn == 0 {
-        return false;
-    }
-    if yn == 0 {
-        return false;
-    }
-    x == y
+    x != 0 && xn != 0 && yn != 0 && x == y
 }

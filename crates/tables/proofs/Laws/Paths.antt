@@ -8,7 +8,9 @@ use native.Mathlib.Numerals.{add-one}
 use native.Mathlib.Omega.{arith}
 use lib.Dec.{eqb, eqb-suc-zero, eqb-suc-suc}
 use lib.ListN.{length, get_or, drop, drop_of_length-le}
-use Rattle.std.specs.Ordering.{is_eq}
+use Rattle.std.specs.declared.cmp.Ordering as program
+use Rattle.std.specs.declared.cmp.Ordering.TheVariants.{Less, Equal, Greater}
+use Rattle.std.specs.Ordering.{is_eq, is_ne, MatchOrdering}
 use Rattle.tables.specs.declared.path.Path.{Path}
 use Rattle.tables.specs.Paths.{path_order, same_path, shared_beginning, front, path_cells, cells_of, parts_of, order_of, shares_part}
 use Rattle.tables.specs.Records.{SchemaPath}
@@ -102,23 +104,23 @@ module _ (p q : Path) (i : ℕ) where
     there : front (drop i (cells_of q)) ≡ parts y (drop (i + 1) (cells_of q))
     there = parts-at (cells_of q) i ∙ ap (λ (k : ℕ). parts k (drop (i + 1) (cells_of q))) (sym ey)
 
-    pub order-less-at : x < y → path_order (front (drop i (cells_of p))) (front (drop i (cells_of q))) ≡ Ordering.lt
-    order-less-at h = rw (here, there) (order-less x y (drop (i + 1) (cells_of p)) (drop (i + 1) (cells_of q)) h)
+    -- the comparison of the two cells decides, or both paths end
+    pub order-found : (r : program.Ordering) → MatchOrdering r (x < y) (x ≡ y) (y < x) → (is_ne r ≡ false → x ≡ 0)
+        → r ≡ order_of (path_order (front (drop i (cells_of p))) (front (drop i (cells_of q))))
+    unfolding order_of
+    order-found Less h z = rw (here, there, order-less x y (drop (i + 1) (cells_of p)) (drop (i + 1) (cells_of q)) h)
+    order-found Equal h z = rw (here, there, order-end x y (drop (i + 1) (cells_of p)) (drop (i + 1) (cells_of q)) h (z refl))
+    order-found Greater h z = rw (here, there, order-greater x y (drop (i + 1) (cells_of p)) (drop (i + 1) (cells_of q)) h)
 
-    pub order-greater-at : y < x → path_order (front (drop i (cells_of p))) (front (drop i (cells_of q))) ≡ Ordering.gt
-    order-greater-at h = rw (here, there) (order-greater x y (drop (i + 1) (cells_of p)) (drop (i + 1) (cells_of q)) h)
-
-    pub order-end-at : x ≤ y → y ≤ x → x ≡ 0 → path_order (front (drop i (cells_of p))) (front (drop i (cells_of q))) ≡ Ordering.eq
-    order-end-at h k z =
-        rw (here, there) (order-end x y (drop (i + 1) (cells_of p)) (drop (i + 1) (cells_of q)) (omega arith) z)
-
-    pub order-next-at : x ≤ y → y ≤ x → (x ≡ 0 → ⊥)
+    pub order-next-at : (r : program.Ordering) → MatchOrdering r (x < y) (x ≡ y) (y < x) → is_ne r ≡ false → (x ≡ 0 → ⊥)
         → path_order (front (drop i (cells_of p))) (front (drop i (cells_of q)))
         ≡ path_order (front (drop (i + 1) (cells_of p))) (front (drop (i + 1) (cells_of q)))
-    order-next-at h k n =
+    order-next-at Less h k n = cc
+    order-next-at Equal h k n =
         ap (λ (r : SchemaPath). path_order r (front (drop i (cells_of q)))) here
         ∙ ap (path_order (parts x (drop (i + 1) (cells_of p)))) there
-        ∙ order-next x y (drop (i + 1) (cells_of p)) (drop (i + 1) (cells_of q)) (omega arith) n
+        ∙ order-next x y (drop (i + 1) (cells_of p)) (drop (i + 1) (cells_of q)) h n
+    order-next-at Greater h k n = cc
 
 -- ---- shared beginning
 
