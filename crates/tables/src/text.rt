@@ -130,22 +130,11 @@ pub fn same_text(a: Text, b: Text, deck: &[u8]) -> bool
     requires { text_in deck.now a × text_in deck.now b }
     ensures { result ≡ same_values deck.now a b }
 {
-    match a {
-        Text::Number(x) => match b {
-            Text::Number(y) => x == y,
-            _ => false,
-        },
-        Text::Str(p) => match b {
-            Text::Str(q) => same_string(p, q, deck),
-            _ => false,
-        },
-        Text::Whole(x) => match b {
-            Text::Whole(y) => x == y,
-            _ => false,
-        },
-        Text::Float(x) => match b {
-            Text::Float(y) => same_float(x, y),
-            _ => false,
-        },
+    match (a, b) {
+        (Text::Number(x), Text::Number(y)) => x == y,
+        (Text::Str(p), Text::Str(q)) => same_string(p, q, deck),
+        (Text::Whole(x), Text::Whole(y)) => x == y,
+        (Text::Float(x), Text::Float(y)) => same_float(x, y),
+        _ => false,
     }
 }
