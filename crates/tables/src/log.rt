@@ -69,16 +69,16 @@ pub fn entry_at(log: &[u64], i: usize) -> Entry
     let kind = entry_cell(log, i, 0);
     let e = entry_cell(log, i, 1) as usize;
     let third = entry_cell(log, i, 2);
-    if kind == 0 {
-        let old = model::cell_parent(entry_cell(log, i, 3));
-        let set = entry_set(log, i);
-        return Entry::Import(Element(e), Element(third as usize), old, set);
+    match kind {
+        0 => Entry::Import(
+            Element(e),
+            Element(third as usize),
+            model::cell_parent(entry_cell(log, i, 3)),
+            entry_set(log, i),
+        ),
+        1 => Entry::Restriction(Element(e), entry_set(log, i)),
+        _ => Entry::Extension(Element(e), FileNumber(third)),
     }
-    if kind == 1 {
-        let set = entry_set(log, i);
-        return Entry::Restriction(Element(e), set);
-    }
-    Entry::Extension(Element(e), FileNumber(third))
 }
 
 // An entry's cells, the set as one.

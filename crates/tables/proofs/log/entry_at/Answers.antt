@@ -1,18 +1,19 @@
+use borrow.Author.Rules.{rules}
 use Rattle.tables.specs.LogTable.{log_of, entry_at}
 use Rattle.tables.proofs.Laws.LogTable.{import-is, restriction-is, extension-is}
 use Rattle.tables.proofs.log.entry_at.Goals as goal
 
-pub returns-then-kind-eq0 : goal.returns-then-kind-eq0
-returns-then-kind-eq0 c =
+pub returns-in-0 : goal.returns-in-0
+returns-in-0 c =
     import-is (entry_at (log_of c.args.log.now) c.args.i) _ _ _ c.entry_cell-kind.ensures c.entry_cell-e.ensures c.entry_cell-third.ensures
-    _ _ _ c.entry_cell.ensures c.entry_set-set.ensures c.cell_parent-old.ensures c.if-kind-eq0.true
+    _ _ _ c.entry_cell.ensures c.entry_set.ensures c.cell_parent.ensures c.in-0.is
 
-pub returns-then-kind-eq1 : goal.returns-then-kind-eq1
-returns-then-kind-eq1 c =
+pub returns-in-1 : goal.returns-in-1
+returns-in-1 c =
     restriction-is (entry_at (log_of c.args.log.now) c.args.i) _ _ _ c.entry_cell-kind.ensures c.entry_cell-e.ensures c.entry_cell-third.ensures
-    _ c.entry_set-set-then-kind-eq1.ensures c.if-kind-eq1.true
+    _ c.entry_set-in-1.ensures c.in-1.is
 
-pub returns : goal.returns
-returns c =
+pub returns-in_default : goal.returns-in_default
+returns-in_default c =
     extension-is (entry_at (log_of c.args.log.now) c.args.i) _ _ _ c.entry_cell-kind.ensures c.entry_cell-e.ensures c.entry_cell-third.ensures
-    c.if-kind-eq0.false c.if-kind-eq1.false
+    (search rules) (search rules)
