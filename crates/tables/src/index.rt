@@ -5,14 +5,14 @@ ghost use Rattle.tables.specs.Index.{buckets, bucket, path_bucket, place_number,
 ghost use Rattle.tables.specs.Paths.{parts_of};
 ghost use Rattle.tables.specs.SchemaTable.{schema_size, schema_of, GoodSchema, index_at, places_in, key_in};
 
-use crate::limits::PATH_LIMIT;
+use crate::limits::{PATH_LIMIT, ROW_LIMIT};
 use crate::path::Path;
 use crate::schema::{GROUP_INDEX_AT, NAME_INDEX_AT, PATH_INDEX_AT};
 
 pub const BUCKETS: usize = 512;
 
 // Heads and links.
-pub const INDEX_SIZE: usize = BUCKETS + 512;
+pub const INDEX_SIZE: usize = BUCKETS + ROW_LIMIT;
 
 // Groups by path, rows by name, rows by path.
 #[derive(Clone, Copy)]
