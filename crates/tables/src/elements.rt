@@ -7,7 +7,7 @@ ghost use Rattle.tables.specs.Records.{enum_number, add_element, add_text, add_t
 ghost use Rattle.tables.specs.Texts.{stored_is, StoredFits};
 ghost use Rattle.tables.specs.ElementsTable.{elements_of, GoodElements, HoldsElements, text_cells, tree_cells, no_tree, element_width, text_width, tree_width};
 
-use crate::cells::put;
+use crate::cells::push_row;
 use crate::limits::{ELEMENT_LIMIT, FILE_LIMIT, ITEM_LIMIT};
 use crate::numbers::{Element, FileNumber, Name, TypeNumber};
 use crate::text::StoredText;
@@ -133,12 +133,7 @@ pub fn add_element_row(elements: &mut [u64], n: Name, t: TypeNumber, depth: u64)
     ensures { HoldsElements elements.new (add_element (elements_of elements.old) n.0 t.0 depth) }
 {
     let m = element_count(elements);
-    put(
-        elements,
-        ELEMENTS_AT + m * ELEMENT_WIDTH,
-        &[n.0, t.0 as u64, depth],
-    );
-    elements[0] = m as u64 + 1;
+    push_row(elements, 0, ELEMENTS_AT, m, &[n.0, t.0 as u64, depth]);
 }
 
 pub fn add_text(elements: &mut [u64], t: StoredText)
@@ -148,8 +143,7 @@ pub fn add_text(elements: &mut [u64], t: StoredText)
     ensures { HoldsElements elements.new (add_text (elements_of elements.old) (stored_is t)) }
 {
     let m = text_count(elements);
-    put(elements, TEXTS_AT + m * TEXT_WIDTH, &[t.kind(), t.value()]);
-    elements[1] = m as u64 + 1;
+    push_row(elements, 1, TEXTS_AT, m, &[t.kind(), t.value()]);
 }
 
 pub fn add_tree(elements: &mut [u64], f: FileNumber, root: Element)
@@ -158,6 +152,5 @@ pub fn add_tree(elements: &mut [u64], f: FileNumber, root: Element)
     ensures { HoldsElements elements.new (add_tree (elements_of elements.old) (record { file = f.0; root = root.0 })) }
 {
     let m = tree_count(elements);
-    put(elements, TREES_AT + m * TREE_WIDTH, &[f.0, root.0 as u64]);
-    elements[2] = m as u64 + 1;
+    push_row(elements, 2, TREES_AT, m, &[f.0, root.0 as u64]);
 }

@@ -8,7 +8,7 @@ ghost use Rattle.tables.specs.Paths.{cells_of, parts_of, path_cells};
 ghost use Rattle.tables.specs.Records.{type_row, modes, add_type, add_group, add_sub_element, add_file};
 ghost use Rattle.tables.specs.SchemaTable.{schema_of, GoodSchema, HoldsSchema, type_cells, group_cells, sub_element_cells, file_cells, no_group, no_sub_element, no_file, mode_number, mode_from, mult_is, mult_number, mult_from, bool_number, type_width, group_width, row_width, file_width};
 
-use crate::cells::put;
+use crate::cells::push_row;
 use crate::index::{INDEX_SIZE, bucket, link, path_bucket};
 use crate::limits::{FILE_LIMIT, GROUP_LIMIT, ROW_LIMIT, TYPE_LIMIT};
 use crate::numbers::{FileNumber, Name, TypeNumber};
@@ -293,12 +293,7 @@ pub fn add_type(schema: &mut [u64], mode: u64, named: bool, split: u64)
     ensures { HoldsSchema schema.new (add_type (schema_of schema.old) (record { mode = mode_from mode; named = named; split = split })) }
 {
     let m = type_count(schema);
-    put(
-        schema,
-        TYPES_AT + m * TYPE_WIDTH,
-        &[mode, named as u64, split],
-    );
-    schema[0] = m as u64 + 1;
+    push_row(schema, 0, TYPES_AT, m, &[mode, named as u64, split]);
 }
 
 pub fn add_group(schema: &mut [u64], t: TypeNumber, p: Path, mode: u64)
@@ -309,12 +304,13 @@ pub fn add_group(schema: &mut [u64], t: TypeNumber, p: Path, mode: u64)
 {
     let m = group_count(schema);
     let q = stored_path(p);
-    put(
+    push_row(
         schema,
-        GROUPS_AT + m * GROUP_WIDTH,
+        1,
+        GROUPS_AT,
+        m,
         &[t.0 as u64, q.0, q.1, q.2, q.3, mode],
     );
-    schema[1] = m as u64 + 1;
     link(schema, GROUP_INDEX_AT, m, path_bucket(t.0, p));
 }
 
@@ -333,9 +329,11 @@ pub fn add_row(
 {
     let m = row_count(schema);
     let q = stored_path(p);
-    put(
+    push_row(
         schema,
-        ROWS_AT + m * ROW_WIDTH,
+        2,
+        ROWS_AT,
+        m,
         &[
             t.0 as u64,
             q.0,
@@ -348,7 +346,6 @@ pub fn add_row(
             mask,
         ],
     );
-    schema[2] = m as u64 + 1;
     link(schema, NAME_INDEX_AT, m, bucket(t.0, n.0 as usize));
     link(schema, PATH_INDEX_AT, m, path_bucket(t.0, p));
 }
@@ -359,6 +356,5 @@ pub fn add_file(schema: &mut [u64], f: FileNumber, version: u64)
     ensures { HoldsSchema schema.new (add_file (schema_of schema.old) (record { file = f.0; version = version })) }
 {
     let m = file_count(schema);
-    put(schema, FILES_AT + m * FILE_WIDTH, &[f.0, version]);
-    schema[3] = m as u64 + 1;
+    push_row(schema, 3, FILES_AT, m, &[f.0, version]);
 }

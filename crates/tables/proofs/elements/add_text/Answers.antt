@@ -1,4 +1,3 @@
-use mathlib.Core.Path.{◌∙◌}
 use mathlib.Core.List.{[], ◌∷◌}
 use Prim.Native.Nat.{◌+◌, ◌*◌}
 use borrow.Author.Rules.{rules}
@@ -11,5 +10,6 @@ use Rattle.tables.proofs.elements.add_text.Goals as goal
 
 pub returns : goal.returns
 returns c =
-    added-text c.args.elements.now (search rules) _ _ (stored_is c.args.t) (stored_fits c.args.t c.requires.stored_fits) (search rules) c.text_count-m.ensures
-    (c.put.ensures ∙ (λ i. puts c.args.elements.now (texts_at + c.text_count-m.result * text_width) (c.kind.ensures i ∷ c.value.ensures i ∷ [])))
+    rw c.push_row.ensures
+    (added-text c.args.elements.now (search rules) _ _ (stored_is c.args.t) (stored_fits c.args.t c.requires.stored_fits) (search rules) c.text_count-m.ensures
+    (λ i. puts c.args.elements.now (texts_at + c.text_count-m.result * text_width) (c.kind.ensures i ∷ c.value.ensures i ∷ [])))

@@ -1,3 +1,4 @@
+use mathlib.Core.Path.{refl}
 use borrow.Author.Rules.{rules}
 use Rattle.tables.specs.Paths.{cells_of, parts_of}
 use Rattle.tables.specs.SchemaTable.{mult_is}
@@ -6,7 +7,7 @@ use Rattle.tables.proofs.schema.add_row.Goals as goal
 
 pub returns : goal.returns
 returns c =
-    rw (c.link-2.ensures, c.link.ensures)
+    rw (c.link-2.ensures, c.link.ensures, c.push_row.ensures)
     (added-row c.args.schema.now (search rules) _ _ _
     (record {
       type = c.args.t.0;
@@ -18,4 +19,4 @@ returns c =
     })
     _ _ (length_front (cells_of c.args.p)) (search rules) c.row_count-m.ensures
     (row-cells c.args.t.0 _ _ _ _ (parts_of c.args.p) c.stored_path-q.ensures c.args.n.0 c.args.child.0 (mult_is c.args.mult) c.args.mask c.number.ensures)
-    c.put.ensures c.bucket.ensures.value c.path_bucket.ensures.value)
+    refl c.bucket.ensures.value c.path_bucket.ensures.value)
