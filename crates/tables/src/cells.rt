@@ -2,6 +2,7 @@
 
 ghost use Rattle.std.specs.Prelude.{◌≡◌, ◌+◌, ◌*◌, ◌≤◌, ◌<◌, length, set};
 ghost use Rattle.tables.specs.Cells.{puts};
+ghost use Rattle.tables.specs.Index.{place_number};
 
 // The first of them at this place.
 pub fn put(s: &mut [u64], at: usize, cells: &[u64])
@@ -20,4 +21,11 @@ pub fn push_row(table: &mut [u64], counter: usize, at: usize, m: usize, row: &[u
 {
     put(table, at + m * row.len(), row);
     table[counter] = m as u64 + 1;
+}
+
+// The place in a cell that holds it as place + 1, 0 for none.
+pub fn place_in(c: u64) -> Option<usize>
+    ensures { place_number result ≡ c }
+{
+    if c == 0 { None } else { Some((c - 1) as usize) }
 }

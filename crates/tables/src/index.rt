@@ -5,6 +5,7 @@ ghost use Rattle.tables.specs.Index.{buckets, bucket, path_bucket, place_number,
 ghost use Rattle.tables.specs.Paths.{parts_of};
 ghost use Rattle.tables.specs.SchemaTable.{schema_size, schema_of, GoodSchema, index_at, places_in, key_in};
 
+use crate::cells::place_in;
 use crate::limits::{PATH_LIMIT, ROW_LIMIT};
 use crate::path::Path;
 use crate::schema::{GROUP_INDEX_AT, NAME_INDEX_AT, PATH_INDEX_AT};
@@ -70,16 +71,6 @@ pub fn link(cells: &mut [u64], at: usize, n: usize, b: usize)
     cells[head] = n as u64 + 1;
 }
 
-// The place in a head or a link, which holds it as place + 1.
-fn linked_place(c: u64) -> Option<usize>
-    ensures { place_number result ≡ c }
-{
-    if c == 0 {
-        return None;
-    }
-    Some((c - 1) as usize)
-}
-
 // The latest row of the bucket.
 pub fn latest(schema: &[u64], x: Index, b: usize) -> Option<usize>
     requires good_schema { GoodSchema schema.now }
@@ -87,7 +78,7 @@ pub fn latest(schema: &[u64], x: Index, b: usize) -> Option<usize>
     ensures { place_number result ≡ latest (key_in (schema_of schema.now) x) b (places_in (schema_of schema.now) x) }
 {
     let at = x.at();
-    linked_place(schema[at + b])
+    place_in(schema[at + b])
 }
 
 // The latest row above row i of the same bucket.
@@ -97,5 +88,5 @@ pub fn latest_above(schema: &[u64], x: Index, i: usize) -> Option<usize>
     ensures { place_number result ≡ latest (key_in (schema_of schema.now) x) (key_in (schema_of schema.now) x i) i }
 {
     let at = x.at();
-    linked_place(schema[at + (BUCKETS + i)])
+    place_in(schema[at + (BUCKETS + i)])
 }

@@ -7,6 +7,7 @@ ghost use Rattle.tables.specs.Records.{Model, child, parent_of, set_of, list_of,
 ghost use Rattle.tables.specs.SetCells.{set_is};
 ghost use Rattle.tables.specs.ModelTable.{parent_is, item_is, parent_cell, cell_parent, item_cell, cell_item, count_of, model_of, ParentBelow, ItemBelow, GoodModel, HoldsModel, StartOf, shift_in, shift_out, on_from};
 
+use crate::cells::place_in;
 use crate::file_set::{FileSet, SET_WIDTH, read_set, store_set};
 use crate::limits::{ELEMENT_LIMIT, ITEM_LIMIT};
 use crate::numbers::Element;
@@ -37,10 +38,7 @@ pub const TEXT_CELLS_AT: u64 = ELEMENT_LIMIT as u64;
 pub fn cell_parent(c: u64) -> Option<Element>
     ensures { parent_is result ≡ cell_parent c }
 {
-    if c == 0 {
-        return None;
-    }
-    Some(Element((c - 1) as usize))
+    place_in(c).map(Element)
 }
 
 pub fn parent_cell(p: Option<Element>) -> u64
@@ -82,7 +80,7 @@ fn move_up(s: &mut [u64], k: usize, v: u64)
     for j in (0..s.len() - k).rev() {
         s[j + k] = s[j];
     }
-    fill(&mut s[..k], v);
+    s[..k].fill(v);
 }
 
 // The same; by one the loop compiles to one move.
@@ -158,20 +156,11 @@ fn lower_from(s: &mut [u64], i: usize, k: u64)
     }
 }
 
-// Every cell of a table this value.
-fn fill(table: &mut [u64], v: u64)
-    ensures { table.new ≡ replicate (length table.old) v }
-{
-    for j in 0..table.len() {
-        table[j] = v;
-    }
-}
-
 // Every cell of a table zero.
 pub fn clear(table: &mut [u64])
     ensures { table.new ≡ replicate (length table.old) 0 }
 {
-    fill(table, 0);
+    table.fill(0);
 }
 
 // Reads.

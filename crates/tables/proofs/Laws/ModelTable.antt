@@ -10,13 +10,18 @@ use borrow.Author.Tests.{lt-ltb, le-ltb}
 use borrow.Rule.Slice.PartMut.{mid_of, put_mid}
 use lib.ListN.{length, set, get_or, take, drop, replicate, length-append, length-map, length-set, length-replicate, get_or-map, replicate-append-replicate}
 use lib.Seq.{drop_at, drop-drop}
+use Rattle.std.specs.Prelude.{Some, None}
+use Rattle.std.specs.Prelude as program_option
+use Rattle.std.specs.Option.{MatchOption, IsSomeAnd}
+use Rattle.tables.specs.declared.numbers.Element as program_element
+use Rattle.tables.specs.Index.{place_number}
 use Rattle.tables.specs.Cells.{padded, puts, row_cells, cells, rows_of, Each}
 use Rattle.tables.specs.Limits.{element_limit, item_limit}
 use Rattle.tables.specs.Lists.{insert_run, remove_run, sum}
 use Rattle.tables.specs.FileSets.{no_set}
 use Rattle.tables.specs.SetCells.{set_width, set_cells, cells_set}
 use Rattle.tables.specs.Records.{FileSet, Item, child, text, Model, content_items, parent_of, set_of, list_of, put_parent, put_set, put_list, insert_items, put_item, remove_items, add_to_model}
-use Rattle.tables.specs.ModelTable.{parents_at, sets_at, starts_at, items_at, model_size, parent_cell, cell_parent, item_cell, cell_item, sums, gaps_of, flat, start_of, cut, count_of, encode_model, model_of, ParentBelow, ItemBelow, SizedModel, GoodModel, HoldsModel, shift_in, shift_out, on_from, no_model}
+use Rattle.tables.specs.ModelTable.{parent_is, parents_at, sets_at, starts_at, items_at, model_size, parent_cell, cell_parent, item_cell, cell_item, sums, gaps_of, flat, start_of, cut, count_of, encode_model, model_of, ParentBelow, ItemBelow, SizedModel, GoodModel, HoldsModel, shift_in, shift_out, on_from, no_model}
 use Rattle.tables.proofs.Laws.Cells.{set-inside, get_d-inside, length-padded, get_d-padded, set-padded, set-behind-padded, take-padded, padded-more, mid-padded, put-padded, each-get_d, each_set, each_append, each_all, each-imp, length-cells, last-back, get_d-rows_of, put_last, append-last}
 use Rattle.tables.proofs.Laws.Lists.{length-remove_run, each-insert_run, each-remove_run, map-set, map-insert_run, map-remove_run, map-then, map_back, length-flat, flat-insert_run, flat-remove, flat-set, get_d-flat, start_fits, start-end, start-next, cut-flat, length-shift_in, length-shift_out, shift_in-room}
 use Rattle.tables.proofs.Laws.Model.{length-list-insert, length-list-put, length-list-remove, total-insert_items, total-put_item, total-remove, flat-add, total-add}
@@ -37,14 +42,13 @@ cell_item-back n (child e) h k = rw (cell_item, lt-ltb e element_limit (omega ar
 cell_item-back n (text t) h k = rw (cell_item, le-ltb (element_limit + t) element_limit (omega arith), add-sub_cancel_left element_limit t)
 
 -- what a test of a cell shows
-pub cell_parent-zero : (c : ℕ) → c ≡ 0 → none ≡ cell_parent c
+-- a place as an element's number
+pub cell_parent-place : (p : program_option.Option ℕ) (r : program_option.Option program_element.Element)
+    → MatchOption p (r ≡ None) (λ (x : ℕ). IsSomeAnd r (λ (e : program_element.Element). e.0 ≡ x)) → parent_is r ≡ cell_parent (place_number p)
 unfolding cell_parent
-cell_parent-zero c e = rw e
-
-pub cell_parent-some : (c : ℕ) → (c ≡ 0 → ⊥) → some (c - 1) ≡ cell_parent c
-unfolding cell_parent
-cell_parent-some zero h = absurd (h refl)
-cell_parent-some (suc c) h = ap {B = Option ℕ} some (omega arith)
+cell_parent-place None r h = rw h
+cell_parent-place (Some x) None h = absurd h
+cell_parent-place (Some x) (Some e) h = ap {B = Option ℕ} some h
 
 pub cell_item-child : (c : ℕ) → c < element_limit → child c ≡ cell_item c
 unfolding cell_item

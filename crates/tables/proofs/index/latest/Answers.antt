@@ -5,4 +5,4 @@ use Rattle.tables.proofs.index.latest.Goals as goal
 
 pub returns : goal.returns
 returns c =
-    c.linked_place.ensures ∙ rw (← c.at-at.ensures.value) at (index-head c.args.schema.now (search rules) c.args.x c.args.b (search rules))
+    c.place_in.ensures ∙ rw (← c.at-at.ensures.value) at (index-head c.args.schema.now (search rules) c.args.x c.args.b (search rules))

@@ -1,8 +1,5 @@
-use Rattle.tables.proofs.Laws.ModelTable.{cell_parent-zero, cell_parent-some}
+use Rattle.tables.proofs.Laws.ModelTable.{cell_parent-place}
 use Rattle.tables.proofs.model.cell_parent.Goals as goal
 
-pub returns-then-c-eq0 : goal.returns-then-c-eq0
-returns-then-c-eq0 c = cell_parent-zero _ c.if-c-eq0.true
-
 pub returns : goal.returns
-returns c = cell_parent-some _ c.if-c-eq0.false
+returns c = rw (← c.place_in.ensures) (cell_parent-place c.place_in.result c.map.result c.map.ensures.cases)

@@ -17,5 +17,5 @@ loop-j-preserved c =
 pub returns : goal.returns
 returns c =
     let z : c.loop-j.j ≡ 0 = omega arith in
-    ap (λ (r : List ℕ). r ++ drop c.args.k c.loop-j.s) c.fill.ensures
+    ap (λ (r : List ℕ). r ++ drop c.args.k c.loop-j.s) (c.fill.ensures.after (λ y h. h))
     ∙ shift_in-first c.loop-j.s c.args.s.now c.args.k c.args.v (omega arith) (rw z at c.loop-j.invariant.0)
