@@ -46,7 +46,8 @@ pub enum StoredText {
 impl StoredText {
     // The text that a table holds as kind and value.
     pub fn from_cells(kind: u64, value: u64) -> StoredText
-        ensures { stored_is result ≡ text_from kind value }
+        ensures is { stored_is result ≡ text_from kind value }
+        ensures fits { StoredFits result }
     {
         match kind {
             0 => StoredText::Number(value),
