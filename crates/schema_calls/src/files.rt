@@ -15,7 +15,7 @@ use tables::file_set::FileSet;
 use tables::numbers::FileNumber;
 use tables::schema::{file_count, file_number, file_version};
 
-// The first row of the file.
+// The first row of the file. `tree_place` does the same in another table: over one search with a closure there would be three functions for two.
 fn find_file(schema: &[u64], f: FileNumber) -> Option<usize>
     requires { GoodSchema schema.now }
     ensures { Finds no_file (schema_of schema.now).files result (first_of (file_matches f.0) (schema_of schema.now).files) }
@@ -83,13 +83,7 @@ pub fn version_of(schema: &[u64], f: FileNumber) -> u64
 fn least_with(s: FileSet, f: FileNumber, v: u64, w: u64) -> u64
     ensures { result ≡ least_with (set_is s) f.0 v w }
 {
-    if !s.holds(f) {
-        return v;
-    }
-    if v < w {
-        return v;
-    }
-    w
+    if s.holds(f) { v.min(w) } else { v }
 }
 
 pub fn least_version(schema: &[u64], s: FileSet, v: u64) -> u64

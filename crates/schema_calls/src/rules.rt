@@ -24,7 +24,7 @@ pub fn type_declared(schema: &[u64], t: TypeNumber) -> bool
     t.0 < count
 }
 
-// Every proper beginning of the path has a group above this place.
+// Every proper beginning of the path has a group above this place. No loop: there are three at most, and a part of 0 ends the path.
 fn beginnings_declared(schema: &[u64], t: TypeNumber, p: Path, above: usize) -> bool
     requires good_schema { GoodSchema schema.now }
     requires above_in_bounds { above ≤ length (schema_of schema.now).groups }
@@ -87,11 +87,8 @@ pub fn rows_meet(schema: &[u64], above: usize, c: RowCells) -> bool
 {
     let t = c.ty;
     let name = c.name;
-    if is_found(schema, Sought::Name(t, name), above) {
-        return true;
-    }
     let path = c.path;
-    is_found(schema, Sought::Path(t, path), above)
+    is_found(schema, Sought::Name(t, name), above) || is_found(schema, Sought::Path(t, path), above)
 }
 
 // The same of row i of the table, by its own links.
@@ -100,10 +97,7 @@ pub fn row_repeats(schema: &[u64], i: usize) -> bool
     requires i_in_bounds { i < length (schema_of schema.now).sub_elements }
     ensures { result ≡ has_equal_row (rows_above (schema_of schema.now) i) (get_or (schema_of schema.now).sub_elements i no_sub_element) }
 {
-    if repeats(schema, Index::Names, i) {
-        return true;
-    }
-    repeats(schema, Index::Paths, i)
+    repeats(schema, Index::Names, i) || repeats(schema, Index::Paths, i)
 }
 
 // No path above begins or is begun by the row's unless both are equal, or the row's is a group's: so the caller looks for equal ones.

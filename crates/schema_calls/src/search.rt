@@ -11,7 +11,7 @@ use tables::numbers::{Name, TypeNumber};
 use tables::path::Path;
 use tables::schema::{group_path, group_type, row_mask, row_name, row_path, row_type};
 
-// What is sought in a type.
+// What is sought in a type. No closure: the contract of `find` names the index and the bucket that go with the test.
 #[derive(Clone, Copy)]
 pub enum Sought {
     // The row of a name whose mask meets the mask.
@@ -110,6 +110,7 @@ pub fn find(schema: &[u64], sought: Sought, above: usize) -> Option<usize>
     let x = sought.index();
     let mut found = None;
     let mut next = latest(schema, x, sought.bucket());
+    // No `for`: the next place is where a link leads, here and in `repeats`.
     while let Some(i) = next {
         next = latest_above(schema, x, i);
         if i < above && sought.matches(schema, i) {

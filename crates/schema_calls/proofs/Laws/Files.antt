@@ -1,14 +1,12 @@
 -- Laws of the files of a schema, one more or one less of them. Assumes nothing.
-use mathlib.Core.Bool.{true, false}
 use mathlib.Core.List.{List, ◌∷◌}
 use mathlib.Core.Option.{none, some}
-use mathlib.Core.Path.{◌≡◌, sym, ap, ◌∙◌}
+use mathlib.Core.Path.{◌≡◌, ap, ◌∙◌}
 use Prim.Native.Nat.{ℕ, suc, ◌+◌, ◌-◌, ◌≤◌, ◌<◌}
-use native.Mathlib.Nat.{min-eq_left, min-eq_right}
 use native.Mathlib.Omega.{arith}
 use lib.ListN.{length, get_or, drop}
 use lib.Seq.{drop-cons, drop-length}
-use Rattle.tables.specs.FileSets.{no_set, holds, with_file}
+use Rattle.tables.specs.FileSets.{no_set, with_file}
 use Rattle.tables.specs.Lists.{first_of}
 use Rattle.tables.specs.Records.{File, Schema}
 use Rattle.tables.specs.SchemaTable.{no_file}
@@ -44,16 +42,6 @@ module _ (sc : Schema) (f : ℕ) where
   pub version-none : first_of (file_matches f) sc.files ≡ none → 0 ≡ version_of sc f
   unfolding version_of
   version-none e = rw (version_of, e)
-
-module _ (s f v w : ℕ) where
-  pub least-out : holds s f ≡ false → v ≡ least_with s f v w
-  least-out h = rw (least_with, h)
-
-  pub least-old : holds s f ≡ true → v < w → v ≡ least_with s f v w
-  least-old h k = let z : v ≤ w = omega arith in rw (least_with, h) (sym (min-eq_left z))
-
-  pub least-new : holds s f ≡ true → w ≤ v → w ≡ least_with s f v w
-  least-new h k = rw (least_with, h) (sym (min-eq_right k))
 
 -- what is left of the files gives the whole
 module _ (l : List File) (i s v : ℕ) where

@@ -61,9 +61,9 @@ module _ (sc : Schema) (r : SubElement) (n : ℕ) (h : n ≤ length sc.sub_eleme
   name-above : any_of (name_matches r.type r.name) (take n sc.sub_elements) ≡ a
   name-above = sym (any-first (name_matches r.type r.name) no_sub_element sc.sub_elements n h named)
 
-  pub equal-named : a ≡ true → true ≡ has_equal_row (rows_above sc n) r
+  pub equal-named : a ≡ true → a ≡ has_equal_row (rows_above sc n) r
   unfolding rows_above
-  equal-named e = rw (name-above ∙ e)
+  equal-named e = rw (name-above ∙ e) e
 
   pub equal-path : a ≡ false → {b : Bool} → b ≡ any_below (λ (i : ℕ). path_matches r.type r.path (get_or sc.sub_elements i no_sub_element)) n
       → b ≡ has_equal_row (rows_above sc n) r

@@ -9,7 +9,7 @@ returns-then-repeats c =
     let sc = schema_of c.args.schema.now in
     equal-named sc (get_or sc.sub_elements c.args.i no_sub_element) c.args.i (search rules) c.repeats.ensures c.if-repeats.true
 
-pub returns : goal.returns
-returns c =
+pub returns-else-repeats : goal.returns-else-repeats
+returns-else-repeats c =
     let sc = schema_of c.args.schema.now in
-    equal-path sc (get_or sc.sub_elements c.args.i no_sub_element) c.args.i (search rules) c.repeats.ensures c.if-repeats.false c.repeats-2.ensures
+    equal-path sc (get_or sc.sub_elements c.args.i no_sub_element) c.args.i (search rules) c.repeats.ensures c.if-repeats.false c.repeats-else-repeats.ensures

@@ -8,6 +8,6 @@ pub returns-then-is_found : goal.returns-then-is_found
 returns-then-is_found c =
     equal-named (schema_of c.args.schema.now) (row_is c.args.c) c.args.above (search rules) c.is_found.ensures c.if-is_found.true
 
-pub returns : goal.returns
-returns c =
-    equal-path (schema_of c.args.schema.now) (row_is c.args.c) c.args.above (search rules) c.is_found.ensures c.if-is_found.false c.is_found-2.ensures
+pub returns-else-is_found : goal.returns-else-is_found
+returns-else-is_found c =
+    equal-path (schema_of c.args.schema.now) (row_is c.args.c) c.args.above (search rules) c.is_found.ensures c.if-is_found.false c.is_found-else-is_found.ensures
