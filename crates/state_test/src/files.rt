@@ -32,6 +32,7 @@ fn sets_declared(model: &[u64], d: FileSet) -> bool
     requires { GoodModel model.now }
     ensures { (sc : Schema) → set_is d ≡ declared_files sc → result ≡ all_of (set_declared sc) (model_of model.now).sets }
 {
+    // No way out at the first set that fails, as in the scans of table_test: so the compiler can take several at a time.
     let mut all = true;
     for e in 0..count(model) {
         all = all & set_of(model, Element(e)).part_of(d);
@@ -98,6 +99,7 @@ fn tree_files_distinct(elements: &[u64], model: &[u64]) -> bool
     true
 }
 
+#[tactic(auto, using(crate::proofs::Laws::Files::root_set_there), unfolding(crate::specs::StateTest::files_declared))]
 pub fn files_declared(schema: &[u64], elements: &[u64], model: &[u64], log: &[u64]) -> bool
     requires good_schema { GoodSchema schema.now }
     requires each { Each (λ (d : File). d.file < file_limit) (schema_of schema.now).files }
@@ -108,17 +110,9 @@ pub fn files_declared(schema: &[u64], elements: &[u64], model: &[u64], log: &[u6
     ensures { (deck : List ℕ) → result ≡ files_declared (fixed_in deck schema.now elements.now) (state_in model.now log.now) }
 {
     let d = declared_files(schema);
-    if !root_set_stored(model) {
-        return false;
-    }
-    if !sets_declared(model, d) {
-        return false;
-    }
-    if !log_declared(log, d) {
-        return false;
-    }
-    if !trees_declared(elements, d) {
-        return false;
-    }
-    tree_files_distinct(elements, model)
+    root_set_stored(model)
+        && sets_declared(model, d)
+        && log_declared(log, d)
+        && trees_declared(elements, d)
+        && tree_files_distinct(elements, model)
 }

@@ -104,7 +104,7 @@ fn list_valid(
     schema: &[u64],
     elements: &[u64],
     model: &[u64],
-    p: usize,
+    p: Element,
     row: usize,
 ) -> Option<usize>
     requires good_schema { GoodSchema schema.now }
@@ -112,15 +112,15 @@ fn list_valid(
     requires each { Each Shallow (elements_of elements.now).depths }
     requires good_model { GoodModel model.now }
     requires model_value { count_of (model_of model.now) ≡ length (elements_of elements.now).names }
-    requires p_bound { p < count_of (model_of model.now) }
+    requires p_bound { p.0 < count_of (model_of model.now) }
     requires found_row { FoundRow (schema_of schema.now) row }
-    ensures by_index { (deck : List ℕ) → is_some result ≡ all_of (item_valid (fixed_in deck schema.now elements.now) p) (list_of (model_of model.now) p) }
+    ensures by_index { (deck : List ℕ) → is_some result ≡ all_of (item_valid (fixed_in deck schema.now elements.now) p.0) (list_of (model_of model.now) p.0) }
     ensures found_row_2 { IfSome result (FoundRow (schema_of schema.now)) }
 {
     let mut last = row;
-    for i in 0..list_length(model, Element(p)) {
-        let a = item_at(model, Element(p), i);
-        last = item_valid(schema, elements, Element(p), a, last)?;
+    for i in 0..list_length(model, p) {
+        let a = item_at(model, p, i);
+        last = item_valid(schema, elements, p, a, last)?;
     }
     Some(last)
 }
@@ -133,9 +133,10 @@ pub fn lists_valid(schema: &[u64], elements: &[u64], model: &[u64]) -> bool
     requires model_value { count_of (model_of model.now) ≡ length (elements_of elements.now).names }
     ensures { (deck : List ℕ) → result ≡ lists_valid (fixed_in deck schema.now elements.now) 0 (model_of model.now).lists }
 {
+    // A place past the last row stands for no row yet: it is asked as any other, and an Option inside the answers' Option would say no more.
     let mut last = row_count(schema);
     for p in 0..count(model) {
-        let Some(row) = list_valid(schema, elements, model, p, last) else {
+        let Some(row) = list_valid(schema, elements, model, Element(p), last) else {
             return false;
         };
         last = row;

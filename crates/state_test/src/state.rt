@@ -15,6 +15,7 @@ use crate::schema::schema_valid;
 use table_test::test::tables_pass;
 
 // The state held by tables that pass their own test.
+#[tactic(auto, unfolding(crate::specs::StateTest::state_valid))]
 fn state_valid(schema: &[u64], elements: &[u64], model: &[u64], log: &[u64]) -> bool
     requires good_schema { GoodSchema schema.now }
     requires each { Each PathFilled (schema_of schema.now).sub_elements }
@@ -27,16 +28,10 @@ fn state_valid(schema: &[u64], elements: &[u64], model: &[u64], log: &[u64]) -> 
     requires model_value { count_of (model_of model.now) ≡ length (elements_of elements.now).names }
     ensures { (deck : List ℕ) → result ≡ state_valid (fixed_in deck schema.now elements.now) (state_in model.now log.now) }
 {
-    if !schema_valid(schema) {
-        return false;
-    }
-    if !files_declared(schema, elements, model, log) {
-        return false;
-    }
-    if !roots_valid(elements) {
-        return false;
-    }
-    lists_valid(schema, elements, model)
+    schema_valid(schema)
+        && files_declared(schema, elements, model, log)
+        && roots_valid(elements)
+        && lists_valid(schema, elements, model)
 }
 
 // No refusal 0: the tables pass their own test, and the state that they hold is valid.

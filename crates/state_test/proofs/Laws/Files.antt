@@ -14,7 +14,7 @@ use Rattle.tables.specs.ElementsTable.{no_tree}
 use Rattle.tables.specs.LogTable.{entry_at, no_entry}
 use Rattle.tables.proofs.Laws.FileSets.{holds-with_file, holds-with_file-other, holds-no_set}
 use Rattle.deck.specs.Schema.{declares_file, files_of, declared_files}
-use Rattle.state_test.specs.StateTest.{root_set_stored, set_declared, entry_declared, tree_declared, waits, tree_files_distinct, files_declared}
+use Rattle.state_test.specs.StateTest.{root_set_stored, set_declared, tree_declared, waits, tree_files_distinct, files_declared}
 use Rattle.tables.proofs.Laws.Scans.{drop-next, drop-end, all_more, all-stop, all_end}
 use Rattle.state_test.proofs.Laws.Answers.{passed, failed}
 
@@ -24,11 +24,11 @@ unfolding root_set_stored
 no-root-set m h = rw (get_or-eq_default m.sets 0 {n = 0} h)
 
 -- and one whose root's set is stored has elements
-pub root-set-there : (m : Model) → root_set_stored m ≡ true → 0 < length m.sets
-root-set-there m h = by_count (length m.sets) refl
+pub root_set_there : (m : Model) → length m.sets ≡ length m.parents → root_set_stored m ≡ true → 0 < length m.parents
+root_set_there m same h = by_count (length m.sets) refl
   where
-    by_count : (n : ℕ) → length m.sets ≡ n → 0 < length m.sets
-    by_count (suc n) e = omega arith
+    by_count : (n : ℕ) → length m.sets ≡ n → 0 < length m.parents
+    by_count (suc n) e = omega (arith, same, e)
     by_count zero e = absurd (false≢true (no-root-set m (omega arith) ∙ h))
 
 -- ---- tests by a set
@@ -181,29 +181,9 @@ module _ (m : Model) (l : List Tree) (i : ℕ) (s : FileSet) (inv : distinct_fro
   unfolding distinct_from keep
   distinct-end h = let k : distinct_from s (keep (waits m) (drop i l)) ≡ true = rw (drop-end l i h) in sym k ∙ inv
 
--- ---- the whole, at the test that fails first
+-- ---- the whole
 
 module _ (x : Fixed) (s : State) where
-  pub files-stop-1 : root_set_stored s.model ≡ false → false ≡ files_declared x s
+  pub no-root-set-fails : root_set_stored s.model ≡ false → false ≡ files_declared x s
   unfolding files_declared
-  files-stop-1 a = rw (files_declared, a)
-
-  module _ (a : root_set_stored s.model ≡ true) where
-    pub files-stop-2 : all_of (set_declared x.schema) s.model.sets ≡ false → false ≡ files_declared x s
-    unfolding files_declared
-    files-stop-2 b = rw (files_declared, a, b)
-
-    module _ (b : all_of (set_declared x.schema) s.model.sets ≡ true) where
-      pub files-stop-3 : all_of (entry_declared x.schema) s.log ≡ false → false ≡ files_declared x s
-      unfolding files_declared
-      files-stop-3 e = rw (files_declared, a, b, e)
-
-      module _ (e : all_of (entry_declared x.schema) s.log ≡ true) where
-        pub files-stop-4 : all_of (tree_declared x.schema) x.elements.trees ≡ false → false ≡ files_declared x s
-        unfolding files_declared
-        files-stop-4 f = rw (files_declared, a, b, e, f)
-
-        pub files-last : all_of (tree_declared x.schema) x.elements.trees ≡ true → {r : Bool} → r ≡ tree_files_distinct (keep (waits s.model) x.elements.trees)
-            → r ≡ files_declared x s
-        unfolding files_declared
-        files-last f g = g ∙ rw (files_declared, a, b, e, f)
+  no-root-set-fails a = rw (files_declared, a)

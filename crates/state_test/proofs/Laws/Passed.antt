@@ -4,7 +4,6 @@ use mathlib.Core.List.{List, Memᴰ}
 use mathlib.Core.Path.{◌≡◌, ◌∙◌}
 use Prim.Native.Nat.{ℕ, suc, ◌<◌}
 use native.Mathlib.Nat.{zero-add}
-use native.Mathlib.Omega.{arith}
 use borrow.Author.Tests.{eqb-true}
 use lib.Dec.{eqb}
 use lib.ListN.{length}
@@ -12,7 +11,7 @@ use Rattle.tables.specs.Records.{Element, child, Fixed, State, depth_of, list_of
 use Rattle.tables.specs.ModelTable.{count_of, model_of}
 use Rattle.table_test.specs.TablesTest.{tables_pass}
 use Rattle.state_test.specs.StateTest.{schema_valid, root_set_stored, files_declared, roots_valid, item_valid, lists_valid, state_valid, lent_tables_pass, fixed_in, state_in}
-use Rattle.state_test.proofs.Laws.Files.{root-set-there, files-stop-1}
+use Rattle.state_test.proofs.Laws.Files.{root_set_there, no-root-set-fails}
 use Rattle.tables.proofs.Laws.Cases.{bool-split}
 use Rattle.tables.proofs.Laws.Scans.{all_in}
 use Rattle.state_test.proofs.Laws.Roots.{list_at}
@@ -56,6 +55,6 @@ module _ (deck schema es m log : List ℕ) (p : lent_tables_pass deck schema es 
       let s = state_in m log in
       let sets = (passed-tables deck schema es m log p).model_tested.good.sized.sets in
       let stored : root_set_stored (model_of m) ≡ true =
-      bool-split (root_set_stored (model_of m)) (λ e. e) (λ e. absurd (false≢true (files-stop-1 x s e ∙ valid-state.files)))
+      bool-split (root_set_stored (model_of m)) (λ e. e) (λ e. absurd (false≢true (no-root-set-fails x s e ∙ valid-state.files)))
       in
-      omega (arith, root-set-there (model_of m) stored)
+      root_set_there (model_of m) sets stored

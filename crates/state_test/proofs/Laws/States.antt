@@ -11,7 +11,7 @@ use Rattle.tables.specs.Cells.{Each}
 use Rattle.tables.specs.FileSets.{holds}
 use Rattle.tables.specs.Limits.{file_limit, version_limit}
 use Rattle.tables.specs.Lists.{first_of}
-use Rattle.tables.specs.Records.{FileNumber, FileSet, Version, File, Tree, Schema, Fixed, State}
+use Rattle.tables.specs.Records.{FileNumber, FileSet, Version, File, Tree, Schema}
 use Rattle.tables.specs.SchemaTable.{schema_of}
 use Rattle.tables.proofs.Laws.Cases.{bool_case}
 use Rattle.tables.proofs.Laws.Cells.{each-imp}
@@ -20,26 +20,7 @@ use Rattle.table_test.specs.ElementsTest.{TreeIn}
 use Rattle.table_test.specs.SchemaTest.{RowIn, FilesIn, TestedSchema}
 use Rattle.table_test.specs.TablesTest.{tables_pass, TestedTables}
 use Rattle.table_test.proofs.Laws.TablesTest.{tested-tables}
-use Rattle.state_test.specs.StateTest.{PathFilled, schema_valid, files_declared, roots_valid, lists_valid, state_valid, lent_tables_pass, fixed_in, state_in}
-
-module _ (x : Fixed) (s : State) where
-  pub state-stop-1 : schema_valid x.schema ≡ false → false ≡ state_valid x s
-  unfolding state_valid
-  state-stop-1 a = rw (state_valid, a)
-
-  module _ (a : schema_valid x.schema ≡ true) where
-    pub state-stop-2 : files_declared x s ≡ false → false ≡ state_valid x s
-    unfolding state_valid
-    state-stop-2 b = rw (state_valid, a, b)
-
-    module _ (b : files_declared x s ≡ true) where
-      pub state-stop-3 : roots_valid x ≡ false → false ≡ state_valid x s
-      unfolding state_valid
-      state-stop-3 e = rw (state_valid, a, b, e)
-
-      pub state-last : roots_valid x ≡ true → {r : Bool} → r ≡ lists_valid x 0 s.model.lists → r ≡ state_valid x s
-      unfolding state_valid
-      state-last e g = g ∙ rw (state_valid, a, b, e)
+use Rattle.state_test.specs.StateTest.{PathFilled, state_valid, lent_tables_pass, fixed_in, state_in}
 
 module _ (deck schema elements model log : List ℕ) where
   -- tables that pass are what their own test finds
