@@ -158,26 +158,6 @@ fn read_item(
     m
 }
 
-// An item's move, and the bounds behind it.
-#[derive(Clone, Copy)]
-pub struct Moved {
-    pub answer: Move,
-    pub bounds: Bounds,
-}
-
-// The bounds, lent to the step for one item.
-fn lend_bounds(a: Item, against: Option<Against>, mult: Mult, index: usize, bounds: Bounds) -> Moved
-    requires { index < item_limit }
-    ensures { Moves (item_is a) against mult index bounds result.bounds result.answer }
-{
-    let mut lent = bounds;
-    let answer = read_item(a, against, mult, index, &mut lent);
-    Moved {
-        answer,
-        bounds: lent,
-    }
-}
-
 // The items of p's list in order, against the row of the new name.
 fn read_content(
     schema: &[u64],
@@ -206,9 +186,7 @@ fn read_content(
             name = next;
             against = compare_name(schema, t, new, name);
         }
-        let s = lend_bounds(a, against, mult, i, bounds);
-        bounds = s.bounds;
-        match s.answer {
+        match read_item(a, against, mult, i, &mut bounds) {
             Move::Stop => return Ok(bounds),
             Move::To(_) => {}
             Move::Clash => return Err(Unplaced::Conflicting),

@@ -14,7 +14,6 @@ use Rattle.tables.specs.Records.{SchemaPath, Mode, sequence, choice, bag, mixed,
 use Rattle.tables.specs.ElementsTable.{elements_of}
 use Rattle.tables.specs.ModelTable.{model_of, ItemBelow}
 use Rattle.tables.specs.declared.schema.Mult as program_mult
-use Rattle.tables.specs.declared.schema.Mult.TheVariants.{AtMostOne, One, Any}
 use Rattle.tables.specs.SchemaTable.{schema_of, mode_number, mode_from, mult_is, no_sub_element}
 use Rattle.std.specs.declared.cmp.Ordering as program_order
 use Rattle.std.specs.declared.cmp.Ordering.TheVariants.{Less, Equal, Greater}

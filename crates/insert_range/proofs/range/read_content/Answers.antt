@@ -13,7 +13,7 @@ use Rattle.std.specs.Prelude.{Option}
 use Rattle.insert_range.specs.declared.range.Against.{Against}
 use Rattle.insert_range.proofs.Laws.Range.{ItemRead, item-read, read-stop, read-clash, read_more, read-end, item-early, item_in}
 use Rattle.insert_range.proofs.range.read_content.Goals as goal
-use Rattle.insert_range.proofs.range.read_content.Goals.{then-ne, else-ne, After-lend_bounds-s}
+use Rattle.insert_range.proofs.range.read_content.Goals.{then-ne, else-ne, After-read_item}
 
 -- n is the name of item a, behind the name last, and x is how its elements stand to row new
 record Named (schema elements : List ℕ) (t new last : ℕ) (a : Item) (n : Name) (x : Option Against) : Type 0 where
@@ -28,12 +28,12 @@ pub name_or-next-requires-clause-item_below : goal.name_or-next-requires-clause-
 name_or-next-requires-clause-item_below c =
     item_in c.args.elements.now c.args.model.now c.requires.model_over c.args.p.0 c.loop-i.i (search rules) c.item_at-a.ensures
 
-pub lend_bounds-s-requires : goal.lend_bounds-s-requires
-lend_bounds-s-requires c =
+pub read_item-requires : goal.read_item-requires
+read_item-requires c =
     item-early c.args.elements.now c.args.model.now c.requires.model_over c.args.p.0 c.loop-i.i (search rules)
 
 -- the name of the item, and how its elements stand to the new row
-now-named : (c : After-lend_bounds-s) → Named c.args.schema.now c.args.elements.now c.element_type-t.result.0 c.args.new c.loop-i.name.0
+now-named : (c : After-read_item) → Named c.args.schema.now c.args.elements.now c.element_type-t.result.0 c.args.new c.loop-i.name.0
     (item_is c.item_at-a.result) c.if-ne.name c.if-ne.against
 now-named c =
     elim c.if-ne.branch [
@@ -43,28 +43,28 @@ now-named c =
           named w.name-is w.against-is c.loop-i.invariant.0 (sym same ∙ c.name_or-next.ensures)
     ]
 
-read : (c : After-lend_bounds-s) (deck : List ℕ) → ItemRead (fixed_in deck c.args.schema.now c.args.elements.now) c.args.p.0
+read : (c : After-read_item) (deck : List ℕ) → ItemRead (fixed_in deck c.args.schema.now c.args.elements.now) c.args.p.0
     (get_or (schema_of c.args.schema.now).sub_elements c.args.new no_sub_element) (list_of (model_of c.args.model.now) c.args.p.0) c.loop-i.i
-    c.loop-i.bounds c.lend_bounds-s.result.bounds c.lend_bounds-s.result.answer
+    c.loop-i.bounds c.read_item.new.bounds c.read_item.result
 read c deck =
     let a = c.args in
     let k = now-named c in
     item-read deck a.schema.now a.elements.now a.p.0 c.element_type-t.ensures a.new _ c.row_mult-mult.ensures k.compares c.loop-i.name.0
-    (list_of (model_of a.model.now) a.p.0) c.loop-i.i (search rules) (item_is c.item_at-a.result) c.item_at-a.ensures k.named c.lend_bounds-s.ensures
+    (list_of (model_of a.model.now) a.p.0) c.loop-i.i (search rules) (item_is c.item_at-a.result) c.item_at-a.ensures k.named c.read_item.ensures
 
 pub returns-in-Stop : goal.returns-in-Stop
 returns-in-Stop c =
-    let s = (goal.at.returns-in-Stop c).After-lend_bounds-s in
+    let s = (goal.at.returns-in-Stop c).After-read_item in
     λ deck. sym (read-stop (read s deck) c.in-Stop.is) ∙ c.loop-i.invariant.1 deck
 
 pub returns-in-Clash : goal.returns-in-Clash
 returns-in-Clash c =
-    let s = (goal.at.returns-in-Clash c).After-lend_bounds-s in
+    let s = (goal.at.returns-in-Clash c).After-read_item in
     λ deck. sym (read-clash (read s deck) c.in-Clash.is) ∙ c.loop-i.invariant.1 deck
 
 pub loop-i-preserved : goal.loop-i-preserved
 loop-i-preserved c =
-    let s = (goal.at.loop-i-preserved c).After-lend_bounds-s in
+    let s = (goal.at.loop-i-preserved c).After-read_item in
     ((now-named s).compares, λ deck. read_more (read s deck) c.in-To.is ∙ c.loop-i.invariant.1 deck)
 
 pub returns : goal.returns
