@@ -12,10 +12,10 @@ ghost use Rattle.table_test.specs.Fits.{ModelOver};
 ghost use Rattle.insert_range.specs.Range.{ordering_is, move_is, move_of, bounds_after, Compares, name_or, Moves, range_is, Ranges, AnyPlace};
 
 use schema_calls::calls::{find_common_group, find_sub_element, row_of_name};
+use std::cmp::Ordering;
 use tables::elements::{element_name, element_type};
 use tables::model::{Item, item_at, list_length};
 use tables::numbers::{Element, Name, TypeNumber};
-use std::cmp::Ordering;
 use tables::schema::{Mult, row_mult, row_name, row_path, type_mode};
 
 // The first and last place, of a range or of the items so far.
@@ -55,6 +55,8 @@ fn equal_path(mult: Mult, first: usize, index: usize) -> Move
 }
 
 // By the common group's mode (0 sequence, 1 choice, 2 bag, 3 mixed), and the new path's order against the item's.
+// Modes are numbers here and below, and `Move` is an enum of its own, since the choice is to read as the rules do: a match over mode
+// numbers and three path orders that chooses stop, move or conflict (docs/DECISIONS.md).
 fn move_by(mode: u64, order: Ordering, mult: Mult, first: usize, index: usize) -> Move
     requires { index < item_limit }
     ensures { move_is result ≡ move_by (mode_from mode) (ordering_is order) (mult_is mult) first index }
@@ -70,9 +72,8 @@ fn move_by(mode: u64, order: Ordering, mult: Mult, first: usize, index: usize) -
             }),
         },
         1 => match order {
-            Ordering::Less => Move::Clash,
             Ordering::Equal => equal_path(mult, first, index),
-            Ordering::Greater => Move::Clash,
+            Ordering::Less | Ordering::Greater => Move::Clash,
         },
         _ => Move::To(Bounds { first, last: next }),
     }
@@ -91,9 +92,7 @@ fn compare_name(schema: &[u64], t: TypeNumber, new: usize, n: Name) -> Option<Ag
     requires in_bounds { new < length (schema_of schema.now).sub_elements }
     ensures { Compares schema.now t.0 new n.0 result }
 {
-    let Some(old) = row_of_name(schema, t, n) else {
-        return None;
-    };
+    let old = row_of_name(schema, t, n)?;
     let path = row_path(schema, new);
     let other = row_path(schema, old);
     let mode = find_common_group(schema, t, path, other);
@@ -136,9 +135,8 @@ fn bounds_after(m: Move, bounds: Bounds) -> Bounds
     ensures { result ≡ bounds_after m bounds }
 {
     match m {
-        Move::Stop => bounds,
         Move::To(next) => next,
-        Move::Clash => bounds,
+        Move::Stop | Move::Clash => bounds,
     }
 }
 

@@ -1,4 +1,4 @@
-use Rattle.std.proofs.Common.{arith}
+use Rattle.std.proofs.Common.{arith, inl, inr}
 use Rattle.insert_range.proofs.Laws.Range.{sequence-less, sequence-equal, sequence-greater, choice-less, choice-equal, choice-greater, move-any}
 use Rattle.insert_range.proofs.range.move_by.Goals as goal
 
@@ -16,15 +16,14 @@ returns-in-Greater c =
 
 pub returns-in-Less-order : goal.returns-in-Less-order
 returns-in-Less-order c =
-    choice-less c.args.mode c.args.mult c.args.first c.args.index c.in-1.is c.in-Less-order.is
+    elim c.in-Less-order.is [
+      | inl e ↦ choice-less c.args.mode c.args.mult c.args.first c.args.index c.in-1.is e
+      | inr e ↦ choice-greater c.args.mode c.args.mult c.args.first c.args.index c.in-1.is e
+    ]
 
 pub returns-in-Equal-order : goal.returns-in-Equal-order
 returns-in-Equal-order c =
     choice-equal c.args.mode c.args.mult c.args.first c.args.index c.in-1.is c.in-Equal-order.is c.equal_path-in-Equal-order.result c.equal_path-in-Equal-order.ensures
-
-pub returns-in-Greater-order : goal.returns-in-Greater-order
-returns-in-Greater-order c =
-    choice-greater c.args.mode c.args.mult c.args.first c.args.index c.in-1.is c.in-Greater-order.is
 
 pub returns-in_default : goal.returns-in_default
 returns-in_default c =
