@@ -1,7 +1,7 @@
 // Log: restrictions and extensions, their undoing, and marks.
-ghost use Rattle.std.specs.Prelude.{true, ◌≡◌, ◌<◌, ◌≤◌, eqb, length};
+ghost use Rattle.std.specs.Prelude.{true, ◌≡◌, ◌<◌, ◌≤◌, eqb, length, OnOk, IfErr};
 ghost use Rattle.tables.specs.Cells.{Each};
-ghost use Rattle.tables.specs.Limits.{file_limit};
+ghost use Rattle.tables.specs.Limits.{file_limit, log_limit};
 ghost use Rattle.tables.specs.LogTable.{log_of, GoodLog, entry_is};
 ghost use Rattle.tables.specs.ModelTable.{item_is, count_of, model_of, GoodModel, HoldsModel};
 ghost use Rattle.tables.specs.Records.{list_of};
@@ -11,6 +11,7 @@ ghost use Rattle.table_test.specs.ModelTest.{once_in};
 ghost use Rattle.state_test.specs.StateTest.{state_in};
 ghost use Rattle.merge_rules.specs.Log.{restrict, extend, take_out, undo, rollback_merge, is_root_extension, is_mark};
 ghost use Rattle.merge_log.specs.Answers.{outcome_is};
+ghost use Rattle.merge_log.specs.declared.refusals.Refusal.TheVariants.{LogFull};
 ghost use Rattle.merge_log.specs.Places.{FirstPlace, is_child};
 ghost use Rattle.merge_log.specs.Runs.{without_run, RunIn, StandsBefore, OnceIf, Leads};
 ghost use Rattle.table_test.specs.Fits.{KeepsModel, KeepsState};
@@ -22,6 +23,18 @@ use tables::log::{Entry, entry_at, log_length, pop_entry, push_entry};
 use tables::model::{Item, item_at, list_length, remove_items, set_of, set_parent, set_set};
 use tables::numbers::{Element, FileNumber};
 
+// Refusal 9 where the log takes no entry more.
+pub fn has_room(log: &[u64]) -> Result<(), Refusal>
+    requires { GoodLog log.now }
+    ensures room { OnOk result (length (log_of log.now) < log_limit) }
+    ensures full { IfErr result (λ r. (r ≡ LogFull) × (log_limit ≤ length (log_of log.now))) }
+{
+    if LOG_LIMIT <= log_length(log) {
+        return Err(Refusal::LogFull);
+    }
+    Ok(())
+}
+
 // The set becomes `files`, and the log keeps the old one.
 pub fn restrict(model: &mut [u64], log: &mut [u64], e: Element, files: FileSet) -> Result<(), Halt>
     requires good_model { GoodModel model.old }
@@ -30,9 +43,7 @@ pub fn restrict(model: &mut [u64], log: &mut [u64], e: Element, files: FileSet) 
     ensures log_after { outcome_is result (state_in model.new log.new) ≡ restrict e.0 (set_is files) (state_in model.old log.old) }
     ensures keeps_state { KeepsState model.old log.old model.new log.new }
 {
-    if LOG_LIMIT <= log_length(log) {
-        return Err(Halt::Refused(Refusal::LogFull));
-    }
+    has_room(log)?;
     let old = set_of(model, e);
     push_entry(log, Entry::Restriction(e, old));
     set_set(model, e, files);
@@ -52,9 +63,7 @@ pub fn extend(model: &mut [u64], log: &mut [u64], e: Element, f: FileNumber) -> 
     if old.holds(f) {
         return Ok(());
     }
-    if LOG_LIMIT <= log_length(log) {
-        return Err(Halt::Refused(Refusal::LogFull));
-    }
+    has_room(log)?;
     push_entry(log, Entry::Extension(e, f));
     set_set(model, e, old.with(f));
     Ok(())
@@ -82,7 +91,8 @@ pub fn place_of(model: &[u64], p: Element, e: Element) -> Option<usize>
     None
 }
 
-// The last place of e in the list of p, the first one too where the list has no element twice.
+// The last place of e in the list of p, the first one too where the list has no element twice: only there, so it is a function beside
+// `place_of` with a `requires` of its own.
 fn last_place_of(model: &[u64], p: Element, e: Element) -> Option<usize>
     requires good_model { GoodModel model.now }
     requires p_bound { p.0 < count_of (model_of model.now) }
@@ -113,6 +123,7 @@ fn find_place(model: &[u64], p: Element, e: Element, once: bool) -> Option<usize
 }
 
 // Items that are to leave the list of p: k of them, the first at place i. What a merge imported one behind the other leaves at once.
+// No run is one with k = 0, and no Option: the model without it is the model, and each law holds of it as of any other.
 #[derive(Clone, Copy)]
 pub struct Run {
     pub p: Element,
@@ -126,15 +137,7 @@ fn stands_before(model: &[u64], r: Run, p: Element, e: Element) -> bool
     requires run_in { RunIn (model_of model.now) r }
     ensures { result ≡ true → StandsBefore (model_of model.now) r p.0 e.0 }
 {
-    if r.p != p {
-        return false;
-    }
-    if r.i == 0 {
-        return false;
-    }
-    let before = r.i - 1;
-    let a = item_at(model, r.p, before);
-    is_child(a, e)
+    r.p == p && r.i != 0 && is_child(item_at(model, r.p, r.i - 1), e)
 }
 
 fn remove_run(model: &mut [u64], r: Run)

@@ -28,6 +28,17 @@ pub enum Halt {
     Refused(Refusal),
 }
 
+impl From<Refusal> for Halt {
+    ghost use Rattle.std.specs.Prelude.{◌≡◌};
+    ghost use Rattle.merge_log.specs.declared.refusals.Halt.TheVariants.{Refused};
+
+    ghost from_gives = { λ r h. h ≡ Refused r };
+
+    fn from(r: Refusal) -> Halt {
+        Halt::Refused(r)
+    }
+}
+
 #[derive(Clone, Copy)]
 pub struct RefusalFields {
     pub number: u64,

@@ -1,3 +1,7 @@
+use Rattle.std.specs.Prelude.{Err, ◌≡◌}
+use Rattle.std.proofs.lemmas.Result.{IfErr-at_err}
+use Rattle.merge_log.specs.declared.refusals.Halt.TheVariants.{Refused}
+use Rattle.merge_log.specs.declared.refusals.Refusal.TheVariants.{LogFull}
 use Rattle.tables.specs.SetCells.{set_is}
 use mathlib.Core.Path.{sym, ◌∙◌}
 use Rattle.tables.specs.Records.{extension}
@@ -10,9 +14,11 @@ pub returns-then-holds-clause-log_after : goal.returns-then-holds-clause-log_aft
 returns-then-holds-clause-log_after c =
     extend-held c.args.model.now c.args.log.now c.args.e.0 c.args.f.0 (sym c.if-holds.true ∙ (rw c.set_of-old.ensures at c.holds.ensures))
 
-pub returns-then-log_length-ge-LOG_LIMIT-clause-log_after : goal.returns-then-log_length-ge-LOG_LIMIT-clause-log_after
-returns-then-log_length-ge-LOG_LIMIT-clause-log_after c =
-    extend-full c.args.model.now c.args.log.now c.args.e.0 c.args.f.0 (sym c.if-holds.false ∙ (rw c.set_of-old.ensures at c.holds.ensures)) (search rules)
+pub returns-in_err-has_room-clause-log_after : goal.returns-in_err-has_room-clause-log_after
+returns-in_err-has_room-clause-log_after c =
+    let full = IfErr-at_err _ c.in_err-has_room.was c.has_room.ensures.full in
+    let same : c.from_residual.result ≡ Err (Refused LogFull) = grind arith in
+    rw same (extend-full c.args.model.now c.args.log.now c.args.e.0 c.args.f.0 (sym c.if-holds.false ∙ (rw c.set_of-old.ensures at c.holds.ensures)) full.1)
 
 pub returns : goal.returns
 returns c =

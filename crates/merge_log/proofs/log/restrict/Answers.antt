@@ -1,3 +1,7 @@
+use Rattle.std.specs.Prelude.{Err, ◌≡◌}
+use Rattle.std.proofs.lemmas.Result.{IfErr-at_err}
+use Rattle.merge_log.specs.declared.refusals.Halt.TheVariants.{Refused}
+use Rattle.merge_log.specs.declared.refusals.Refusal.TheVariants.{LogFull}
 use Rattle.tables.specs.SetCells.{set_is}
 use Rattle.tables.specs.Records.{restriction}
 use Rattle.merge_log.proofs.Laws.Log.{restrict-full, restrict-done, keeps-change}
@@ -5,9 +9,11 @@ use native.Mathlib.Omega.{arith}
 use borrow.Author.Rules.{rules}
 use Rattle.merge_log.proofs.log.restrict.Goals as goal
 
-pub returns-then-log_length-ge-LOG_LIMIT-clause-log_after : goal.returns-then-log_length-ge-LOG_LIMIT-clause-log_after
-returns-then-log_length-ge-LOG_LIMIT-clause-log_after c =
-    restrict-full c.args.model.now c.args.log.now c.args.e.0 (set_is c.args.files) (search rules)
+pub returns-in_err-has_room-clause-log_after : goal.returns-in_err-has_room-clause-log_after
+returns-in_err-has_room-clause-log_after c =
+    let full = IfErr-at_err _ c.in_err-has_room.was c.has_room.ensures.full in
+    let same : c.from_residual.result ≡ Err (Refused LogFull) = grind arith in
+    rw same (restrict-full c.args.model.now c.args.log.now c.args.e.0 (set_is c.args.files) full.1)
 
 pub returns : goal.returns
 returns c =
