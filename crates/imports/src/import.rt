@@ -17,15 +17,14 @@ ghost use Rattle.pairing.specs.Plans.{spread, import_in, plan_in, RowsIn};
 ghost use Rattle.table_test.specs.Fits.{ModelOver, LogFits, KeepsState};
 
 use insert_range::range::{Unplaced, calc_element_insert_range, takes_any_place};
-use merge_log::log::Run;
+use merge_log::log::{Run, has_room};
 use merge_log::refusals::{Halt, Refusal};
 use schema_calls::calls::find_sub_element;
 use tables::elements::{element_name, element_type};
-use tables::limits::{ITEM_LIMIT, LOG_LIMIT};
-use tables::log::{Entry, log_length, push_entry};
+use tables::limits::ITEM_LIMIT;
+use tables::log::{Entry, push_entry};
 use tables::model::{
-    Item, insert_items, item_total, list_length, parent_of, put_item, set_of, set_parent,
-    set_set,
+    Item, insert_items, item_total, list_length, parent_of, put_item, set_of, set_parent, set_set,
 };
 use tables::numbers::{Element, FileNumber};
 
@@ -48,7 +47,7 @@ fn enter(model: &mut [u64], log: &mut [u64], f: FileNumber, p: Element, e: Eleme
     set_set(model, e, set.with(f));
 }
 
-// 9 comes before 10.
+// The element is put in at this place of p's list, or refusal 9 or 10.
 pub fn import_at(
     model: &mut [u64],
     log: &mut [u64],
@@ -66,11 +65,10 @@ pub fn import_at(
     ensures log_after { outcome_is result (state_in model.new log.new) ≡ import_at f.0 p.0 e.0 at (state_in model.old log.old) }
     ensures keeps_state { KeepsState model.old log.old model.new log.new }
 {
-    if LOG_LIMIT <= log_length(log) {
-        return Err(Halt::Refused(Refusal::LogFull));
-    }
+    // 9 comes before 10.
+    has_room(log)?;
     if ITEM_LIMIT <= item_total(model) {
-        return Err(Halt::Refused(Refusal::ContentFull));
+        return Err(Refusal::ContentFull.into());
     }
     insert_items(model, p, at, 1, Item::Child(e));
     enter(model, log, f, p, e, at);
@@ -116,7 +114,7 @@ pub fn import_single_item(
             let at = clamp(wanted, places.first, places.last);
             import_at(model, log, f, p, e, at)
         }
-        Err(Unplaced::NoRow) => Err(Halt::Refused(Refusal::NotInVersion(p, n))),
+        Err(Unplaced::NoRow) => Err(Refusal::NotInVersion(p, n).into()),
         Err(Unplaced::Conflicting) => Err(Halt::Conflict(p)),
     }
 }
@@ -149,13 +147,8 @@ fn import_into(
     let p = r.p;
     let n = element_name(elements, e);
     let t = element_type(elements, p);
-    let Some(_) = find_sub_element(schema, t, n, 1u64 << v) else {
-        return Err(Halt::Refused(Refusal::NotInVersion(p, n)));
-    };
-    let entries = log_length(log);
-    if LOG_LIMIT <= entries {
-        return Err(Halt::Refused(Refusal::LogFull));
-    }
+    find_sub_element(schema, t, n, 1u64 << v).ok_or(Refusal::NotInVersion(p, n))?;
+    has_room(log)?;
     enter(model, log, f, p, e, r.i);
     Ok(())
 }

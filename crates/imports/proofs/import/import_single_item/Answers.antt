@@ -14,7 +14,7 @@ returns-in-Ok-clause-by_index c =
 
 pub returns-in-Err-NoRow-clause-by_index : goal.returns-in-Err-NoRow-clause-by_index
 returns-in-Err-NoRow-clause-by_index c =
-    λ deck. rw c.element_name-n.ensures (single-no-row (fixed_in deck c.args.schema.now c.args.elements.now) (state_in c.args.model.now c.args.log.now) c.args.f.0 c.args.v c.args.p.0 c.args.e.0 c.args.wanted c.calc_element_insert_range-r.result (rw (← c.element_name-n.ensures) (c.calc_element_insert_range-r.ensures.is deck)) (search rules))
+    λ deck. rw (c.into.ensures, c.element_name-n.ensures) (single-no-row (fixed_in deck c.args.schema.now c.args.elements.now) (state_in c.args.model.now c.args.log.now) c.args.f.0 c.args.v c.args.p.0 c.args.e.0 c.args.wanted c.calc_element_insert_range-r.result (rw (← c.element_name-n.ensures) (c.calc_element_insert_range-r.ensures.is deck)) (search rules))
 
 pub returns-in-Err-Conflicting-clause-by_index : goal.returns-in-Err-Conflicting-clause-by_index
 returns-in-Err-Conflicting-clause-by_index c =
