@@ -19,6 +19,7 @@ ghost use Rattle.table_test.specs.Fits.{ModelOver, LogFits, KeepsState};
 use insert_range::range::{Unplaced, calc_element_insert_range, takes_any_place};
 use merge_log::log::{Run, has_room};
 use merge_log::refusals::{Halt, Refusal};
+use pairing::plan::Rows;
 use schema_calls::calls::find_sub_element;
 use tables::elements::{element_name, element_type};
 use tables::limits::ITEM_LIMIT;
@@ -160,7 +161,7 @@ fn import_run(
     model: &mut [u64],
     log: &mut [u64],
     work: &[u16],
-    na: usize,
+    rows: Rows,
     i: usize,
     f: FileNumber,
     v: u64,
@@ -171,21 +172,21 @@ fn import_run(
     requires each { Each (λ (t : ℕ). t < length (schema_of schema.now).types) (elements_of elements.now).types }
     requires model_over { ModelOver elements.now model.old }
     requires log_fits { LogFits (length (elements_of elements.now).names) log.old }
-    requires rows_in { RowsIn (length (elements_of elements.now).names) work.now na (i + r.k) }
+    requires rows_in { RowsIn (length (elements_of elements.now).names) work.now rows.first (i + r.k) }
     requires f_lt_file_limit { f.0 < file_limit }
     requires v_lt_version_limit { v < version_limit }
     requires p_in_bounds { r.p.0 < length (elements_of elements.now).names }
     requires any_place { AnyPlace schema.now elements.now r.p.0 }
     requires k_bound { content_items (model_of model.old) + r.k ≤ item_limit }
     requires i_in_bounds { r.i ≤ length (list_of (model_of model.old) r.p.0) }
-    requires follow_on { FollowOn work.now na i r.k (length (list_of (model_of model.old) r.p.0)) r.i }
-    ensures by_index { (deck : List ℕ) → outcome_is result (state_in model.new log.new) ≡ import_new_items (fixed_in deck schema.now elements.now) f.0 v r.p.0 i (spread (import_in work.now) (na + i) r.k) (state_in model.old log.old) }
+    requires follow_on { FollowOn work.now rows.first i r.k (length (list_of (model_of model.old) r.p.0)) r.i }
+    ensures by_index { (deck : List ℕ) → outcome_is result (state_in model.new log.new) ≡ import_new_items (fixed_in deck schema.now elements.now) f.0 v r.p.0 i (spread (import_in work.now) (rows.first + i) r.k) (state_in model.old log.old) }
     ensures keeps_state { KeepsState model.old log.old model.new log.new }
 {
     let p = r.p;
     insert_items(model, p, r.i, r.k, Item::Child(p));
     for j in 0..r.k {
-        let row = 2 * (na + i + j);
+        let row = 2 * (rows.first + i + j);
         let e = Element(work[row] as usize);
         let left = Run {
             p,
@@ -198,35 +199,35 @@ fn import_run(
 }
 
 // Where row i of the B-only list goes in a list of n items that takes it at any place.
-fn row_place(work: &[u16], na: usize, i: usize, n: usize) -> usize
-    requires i_in_bounds { 2 * (na + i) + 1 < length work.now }
+fn row_place(work: &[u16], rows: Rows, i: usize, n: usize) -> usize
+    requires i_in_bounds { 2 * (rows.first + i) + 1 < length work.now }
     requires i_bound { i ≤ 2 * item_limit }
-    ensures { result ≡ row_place work.now na i n }
+    ensures { result ≡ row_place work.now rows.first i n }
 {
-    let row = 2 * (na + i);
+    let row = 2 * (rows.first + i);
     let wanted = work[row + 1] as usize + i;
     clamp(wanted, 0, n)
 }
 
 // How many rows from i on go one behind the other into a list of n items that takes them at any place, as far as there is room.
-fn run_length(work: &[u16], na: usize, ni: usize, i: usize, n: usize, room: usize) -> usize
-    requires ni_in_bounds { 2 * (na + ni) ≤ length work.now }
-    requires ni_bound { na + ni ≤ 2 * item_limit }
+fn run_length(work: &[u16], rows: Rows, i: usize, n: usize, room: usize) -> usize
+    requires new_in_bounds { 2 * (rows.first + rows.new) ≤ length work.now }
+    requires new_bound { rows.first + rows.new ≤ 2 * item_limit }
     requires n_le_item_limit { n ≤ item_limit }
-    requires i_lt_ni { i < ni }
-    ensures { RunOf work.now na ni i n room result }
+    requires i_lt_new { i < rows.new }
+    ensures { RunOf work.now rows.first rows.new i n room result }
 {
-    let at = row_place(work, na, i, n);
-    for k in 1..ni - i {
+    let at = row_place(work, rows, i, n);
+    for k in 1..rows.new - i {
         if room <= k {
             return k;
         }
-        let next = row_place(work, na, i + k, n + k);
+        let next = row_place(work, rows, i + k, n + k);
         if next != at + k {
             return k;
         }
     }
-    ni - i
+    rows.new - i
 }
 
 // k rows of the B-only list from i on: one by itself, or several that go one behind the other.
@@ -236,7 +237,7 @@ fn import_rows(
     model: &mut [u64],
     log: &mut [u64],
     work: &[u16],
-    na: usize,
+    rows: Rows,
     i: usize,
     k: usize,
     f: FileNumber,
@@ -248,29 +249,29 @@ fn import_rows(
     requires each { Each (λ (t : ℕ). t < length (schema_of schema.now).types) (elements_of elements.now).types }
     requires model_over { ModelOver elements.now model.old }
     requires log_fits { LogFits (length (elements_of elements.now).names) log.old }
-    requires rows_in { RowsIn (length (elements_of elements.now).names) work.now na (i + k) }
+    requires rows_in { RowsIn (length (elements_of elements.now).names) work.now rows.first (i + k) }
     requires f_lt_file_limit { f.0 < file_limit }
     requires v_lt_version_limit { v < version_limit }
     requires p_in_bounds { p.0 < length (elements_of elements.now).names }
     requires k_nonzero { 0 < k }
-    requires any_place { 1 < k → AnyPlace schema.now elements.now p.0 × Together model.old work.now na i k p.0 }
-    ensures by_index { (deck : List ℕ) → outcome_is result (state_in model.new log.new) ≡ import_new_items (fixed_in deck schema.now elements.now) f.0 v p.0 i (spread (import_in work.now) (na + i) k) (state_in model.old log.old) }
+    requires any_place { 1 < k → AnyPlace schema.now elements.now p.0 × Together model.old work.now rows.first i k p.0 }
+    ensures by_index { (deck : List ℕ) → outcome_is result (state_in model.new log.new) ≡ import_new_items (fixed_in deck schema.now elements.now) f.0 v p.0 i (spread (import_in work.now) (rows.first + i) k) (state_in model.old log.old) }
     ensures keeps_state { KeepsState model.old log.old model.new log.new }
 {
     if k == 1 {
-        let row = 2 * (na + i);
+        let row = 2 * (rows.first + i);
         let e = Element(work[row] as usize);
         let wanted = work[row + 1] as usize + i;
         return import_single_item(schema, elements, model, log, f, v, p, e, wanted);
     }
-    let at = row_place(work, na, i, list_length(model, p));
+    let at = row_place(work, rows, i, list_length(model, p));
     import_run(
         schema,
         elements,
         model,
         log,
         work,
-        na,
+        rows,
         i,
         f,
         v,
@@ -279,28 +280,20 @@ fn import_rows(
 }
 
 // How many rows from i on are imported together: one, if not any place of p's list will do.
-fn rows_together(
-    model: &[u64],
-    work: &[u16],
-    na: usize,
-    ni: usize,
-    i: usize,
-    p: Element,
-    any: bool,
-) -> usize
+fn rows_together(model: &[u64], work: &[u16], rows: Rows, i: usize, p: Element, any: bool) -> usize
     requires good_model { GoodModel model.now }
     requires p_bound { p.0 < count_of (model_of model.now) }
-    requires ni_in_bounds { 2 * (na + ni) ≤ length work.now }
-    requires ni_bound { na + ni ≤ 2 * item_limit }
-    requires i_lt_ni { i < ni }
-    ensures { RowsTogether model.now work.now na ni i p.0 any result }
+    requires new_in_bounds { 2 * (rows.first + rows.new) ≤ length work.now }
+    requires new_bound { rows.first + rows.new ≤ 2 * item_limit }
+    requires i_lt_new { i < rows.new }
+    ensures { RowsTogether model.now work.now rows.first rows.new i p.0 any result }
 {
     if !any {
         return 1;
     }
     let n = list_length(model, p);
     let room = ITEM_LIMIT - item_total(model);
-    run_length(work, na, ni, i, n, room)
+    run_length(work, rows, i, n, room)
 }
 
 // The B-only list of a plan in order: each element is wanted at its position and its index in the list.
@@ -310,8 +303,7 @@ pub fn import_new_items(
     model: &mut [u64],
     log: &mut [u64],
     work: &[u16],
-    na: usize,
-    ni: usize,
+    rows: Rows,
     f: FileNumber,
     v: u64,
     p: Element,
@@ -321,19 +313,19 @@ pub fn import_new_items(
     requires each { Each (λ (t : ℕ). t < length (schema_of schema.now).types) (elements_of elements.now).types }
     requires model_over { ModelOver elements.now model.old }
     requires log_fits { LogFits (length (elements_of elements.now).names) log.old }
-    requires rows_in { RowsIn (length (elements_of elements.now).names) work.now na ni }
+    requires rows_in { RowsIn (length (elements_of elements.now).names) work.now rows.first rows.new }
     requires f_lt_file_limit { f.0 < file_limit }
     requires v_lt_version_limit { v < version_limit }
     requires p_in_bounds { p.0 < length (elements_of elements.now).names }
-    ensures by_index { (deck : List ℕ) → outcome_is result (state_in model.new log.new) ≡ import_new_items (fixed_in deck schema.now elements.now) f.0 v p.0 0 (plan_in na ni work.now).imports (state_in model.old log.old) }
+    ensures by_index { (deck : List ℕ) → outcome_is result (state_in model.new log.new) ≡ import_new_items (fixed_in deck schema.now elements.now) f.0 v p.0 0 (plan_in rows.first rows.new work.now).imports (state_in model.old log.old) }
     ensures keeps_state { KeepsState model.old log.old model.new log.new }
 {
     let any = takes_any_place(schema, elements, p);
     let mut i: usize = 0;
     // No `for`: the rows that are imported together are passed at once.
-    while i < ni {
-        let k = rows_together(model, work, na, ni, i, p, any);
-        import_rows(schema, elements, model, log, work, na, i, k, f, v, p)?;
+    while i < rows.new {
+        let k = rows_together(model, work, rows, i, p, any);
+        import_rows(schema, elements, model, log, work, rows, i, k, f, v, p)?;
         i += k;
     }
     Ok(())

@@ -5,4 +5,4 @@ use Rattle.imports.proofs.import.run_length.Given as goal
 -- the first k rows go one behind the other
 abbrev pub invariant-loop-k : goal.invariant-loop-k
 invariant-loop-k l =
-    (l.at ≡ row_place l.work l.na l.i l.n) × RunOf l.work l.na l.ni l.i l.n l.room l.k
+    (l.at ≡ row_place l.work l.rows.first l.i l.n) × RunOf l.work l.rows.first l.rows.new l.i l.n l.room l.k
