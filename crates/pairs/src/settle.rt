@@ -25,7 +25,7 @@ use tables::file_set::FileSet;
 use tables::model::set_of;
 use tables::numbers::{Element, FileNumber};
 
-// A's own set, else the level's.
+// A's own set, else the level's. No Option: the empty set is the one that is not stored, in the tables as in the rules.
 pub fn files_of_pair(model: &[u64], files: FileSet, a: Element) -> FileSet
     requires good_model { GoodModel model.now }
     requires a_bound { a.0 < count_of (model_of model.now) }
@@ -64,10 +64,7 @@ fn is_keyed(tables: &Tables, a: Element) -> bool
     requires { a.0 < element_count tables.now }
     ensures { result ≡ keyed (fixed_of tables.now) (model_in tables.now) a.0 }
 {
-    if is_identifiable(tables, a) {
-        return true;
-    }
-    definition_child(tables, a).is_some()
+    is_identifiable(tables, a) || definition_child(tables, a).is_some()
 }
 
 // A's first place in the list of p, 0 if none, and 1.
@@ -181,7 +178,7 @@ fn settle_conflict(
         model,
     };
     if is_keyed(&tables, a) {
-        return Err(Halt::Refused(Refusal::Unmergeable(e)));
+        return Err(Refusal::Unmergeable(e).into());
     }
     let t = element_type(elements, p);
     if !splittable_in(schema, t, v) {

@@ -10,7 +10,7 @@ invariant_of-tables c = record { good_fixed = c.requires.good_fixed; model_over 
 
 pub returns-then-is_keyed : goal.returns-then-is_keyed
 returns-then-is_keyed c =
-    let x = fixed_in c.args.deck.now c.args.schema.now c.args.elements.now in record { log_after = conflict-keyed x c.args.f.0 c.args.v c.args.p.0 (record { a = c.args.a.0; b = c.args.b.0 }) (set_is c.args.files) c.args.mark c.args.e.0 (state_in c.args.model.now c.args.log.now) c.is_keyed.ensures c.if-is_keyed.true; keeps_state = λ n texts s. s }
+    let x = fixed_in c.args.deck.now c.args.schema.now c.args.elements.now in record { log_after = rw c.into.ensures (conflict-keyed x c.args.f.0 c.args.v c.args.p.0 (record { a = c.args.a.0; b = c.args.b.0 }) (set_is c.args.files) c.args.mark c.args.e.0 (state_in c.args.model.now c.args.log.now) c.is_keyed.ensures c.if-is_keyed.true); keeps_state = λ n texts s. s }
 
 pub splittable_in-requires : goal.splittable_in-requires
 splittable_in-requires c = record { good_schema = c.requires.good_fixed.schema_tested.good; t_in_bounds = element-type-in c.requires.good_fixed c.args.p.0 c.requires.p_in_bounds c.element_type-t.ensures; v_lt_version_limit = c.requires.v_lt_version_limit }
