@@ -8,6 +8,8 @@ use Rattle.tables.specs.Texts.{bytes_at, place_of, place_in}
 use Rattle.tables.specs.declared.numbers.Element as numbers
 use Rattle.tables.specs.declared.text.Place as code
 use Rattle.merge_rules.specs.Pairing.{item_name, definition, same_key}
+use Rattle.pairing.specs.declared.keys.KeyKind.{KeyKind}
+use Rattle.pairing.specs.declared.keys.KeyKind.TheVariants.{ItemName, Definition}
 
 -- ---- keys
 
@@ -28,6 +30,11 @@ KeyIn deck None = Unit {0}
 pub record Keys (deck : List ℕ) (r : Key) (o : Option (List ℕ)) : Type 0 where
   pub is : key_is deck r ≡ o
   pub within : KeyIn deck r
+
+-- the key is the item name
+abbrev pub is_name : KeyKind → Bool
+is_name ItemName = true
+is_name Definition = false
 
 -- the key of an element: its item name, or its definition
 abbrev pub key_by : Bool → Fixed → Model → Element → Option (List ℕ)

@@ -9,7 +9,7 @@ ghost use Rattle.pairing.specs.Lent.{fixed_of, model_in, element_count};
 ghost use Rattle.pairing.specs.Actions.{Listed, Acts, Decides, Searches};
 ghost use Rattle.pairing.specs.Keys.{KeyMarks};
 
-use crate::keys::{is_identifiable, key_of, sole_text, stored_text};
+use crate::keys::{KeyKind, is_identifiable, key_of, sole_text, stored_text};
 use crate::lent::Tables;
 use crate::sibling::{same_key, sibling};
 use schema_calls::calls::row_of_name;
@@ -95,15 +95,15 @@ pub fn cursor_action(tables: &Tables, t: TypeNumber, a: Element, b: Element) -> 
         return Some(action_by_path(tables, t, a, b));
     }
     if is_identifiable(tables, a) {
-        let key = key_of(tables, true, a);
-        let other = key_of(tables, true, b);
+        let key = key_of(tables, KeyKind::ItemName, a);
+        let other = key_of(tables, KeyKind::ItemName, b);
         if same_key(tables.deck, key, other) {
             return Some(Action::MergeEqual);
         }
         return None;
     }
-    let key = key_of(tables, false, a);
-    let other = key_of(tables, false, b);
+    let key = key_of(tables, KeyKind::Definition, a);
+    let other = key_of(tables, KeyKind::Definition, b);
     if same_key(tables.deck, key, other) {
         if same_element_text(tables, a, b) {
             return Some(Action::MergeEqual);
@@ -129,8 +129,8 @@ fn calc_identifiables_merge(
         (b : ℕ) → same_key (item_name x m a.0) (item_name x m b) ≡ false
         → Acts (element_count tables.now) result (calc_identifiables_merge x m splittable second.now a.0 b) }
 {
-    let key = key_of(tables, true, a);
-    let found = sibling(tables, true, second, names, a, key);
+    let key = key_of(tables, KeyKind::ItemName, a);
+    let found = sibling(tables, KeyKind::ItemName, second, names, a, key);
     match found {
         Some(c) => Action::MergeUnequal(c),
         None => {
@@ -153,8 +153,8 @@ fn calc_element_merge(tables: &Tables, second: &[u16], definitions: &[u16], a: E
         (b : ℕ) → same_key (definition x m a.0) (definition x m b) ≡ false
         → Acts (element_count tables.now) result (calc_element_merge x m second.now a.0 b) }
 {
-    let key = key_of(tables, false, a);
-    let found = sibling(tables, false, second, definitions, a, key);
+    let key = key_of(tables, KeyKind::Definition, a);
+    let found = sibling(tables, KeyKind::Definition, second, definitions, a, key);
     match found {
         Some(c) => Action::MergeUnequal(c),
         None => Action::AOnly,

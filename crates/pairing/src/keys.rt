@@ -6,7 +6,7 @@ ghost use Rattle.tables.specs.Texts.{value_of, place_of};
 ghost use Rattle.schema_calls.specs.Calls.{Finds};
 ghost use Rattle.merge_rules.specs.Pairing.{sole_text, string_of, sole_string, identifier, identifiable, item_name, definition_child, definition};
 ghost use Rattle.pairing.specs.Lent.{fixed_of, model_in, element_count};
-ghost use Rattle.pairing.specs.Keys.{Keys, key_by, FindsChild, span_of};
+ghost use Rattle.pairing.specs.Keys.{Keys, is_name, key_by, FindsChild, span_of};
 
 use crate::lent::Tables;
 use tables::elements::{element_name, element_type, text_at};
@@ -18,6 +18,13 @@ use tables::text::{Place, Text, text_of};
 const SHORT_NAME: Name = Name(1);
 
 const DEFINITION_REF: Name = Name(2);
+
+// Which of the two an element's key is.
+#[derive(Clone, Copy, PartialEq, Eq)]
+pub enum KeyKind {
+    ItemName,
+    Definition,
+}
 
 // Text t of the table.
 pub fn stored_text(elements: &[u64], t: usize) -> Text
@@ -124,14 +131,14 @@ fn definition(tables: &Tables, e: Element) -> Option<Place>
 }
 
 // The item name, or the definition.
-pub fn key_of(tables: &Tables, by_name: bool, e: Element) -> Option<Place>
+pub fn key_of(tables: &Tables, kind: KeyKind, e: Element) -> Option<Place>
     requires { e.0 < element_count tables.now }
-    ensures { Keys tables.now.deck.now result (key_by by_name (fixed_of tables.now) (model_in tables.now) e.0) }
+    ensures { Keys tables.now.deck.now result (key_by (is_name kind) (fixed_of tables.now) (model_in tables.now) e.0) }
 {
-    if by_name {
-        return item_name(tables, e);
+    match kind {
+        KeyKind::ItemName => item_name(tables, e),
+        KeyKind::Definition => definition(tables, e),
     }
-    definition(tables, e)
 }
 
 // The place of a key; of a missing one, no byte.

@@ -2,10 +2,10 @@
 ghost use Rattle.std.specs.Prelude.{false, ◌≡◌, ◌+◌, ◌-◌, ◌<◌, ◌≤◌, length, get_or, take};
 ghost use Rattle.pairing.specs.Lent.{fixed_of, model_in, element_count};
 ghost use Rattle.pairing.specs.Actions.{Listed};
-ghost use Rattle.pairing.specs.Keys.{key_is, KeyIn, key_by, key_mark, NoMark};
+ghost use Rattle.pairing.specs.Keys.{key_is, KeyIn, is_name, key_by, key_mark, NoMark};
 ghost use Rattle.pairing.specs.Walks.{second_children, WritesMarks, MarkRoom, Marked};
 
-use crate::keys::{key_of, span_of};
+use crate::keys::{KeyKind, key_of, span_of};
 use crate::lent::Tables;
 use crate::plan::Sides;
 use tables::numbers::Element;
@@ -28,16 +28,16 @@ pub fn key_mark(deck: &[u8], key: Option<Place>) -> u16
 }
 
 // The marks of one kind of key of B's children, from the place `to` on.
-fn mark_keys(tables: &Tables, by_name: bool, work: &mut [u16], s: Sides, to: usize)
+fn mark_keys(tables: &Tables, kind: KeyKind, work: &mut [u16], s: Sides, to: usize)
     requires listed { Listed (element_count tables.now) (second_children s work.old) }
     requires start_le_end { (s.start ≤ s.end) × (s.end ≤ to) × (to + (s.end - s.start) ≤ length work.old) }
-    ensures { WritesMarks (key_by by_name (fixed_of tables.now) (model_in tables.now)) s to work.old work.new }
+    ensures { WritesMarks (key_by (is_name kind) (fixed_of tables.now) (model_in tables.now)) s to work.old work.new }
 {
     let start = s.start;
     let n = s.end - start;
     for k in 0..n {
         let b = Element(work[start + k] as usize);
-        let key = key_of(tables, by_name, b);
+        let key = key_of(tables, kind, b);
         let at = to + k;
         work[at] = key_mark(tables.deck, key);
     }
@@ -52,8 +52,8 @@ pub fn mark_children(tables: &Tables, work: &mut [u16], s: Sides)
 {
     let names = s.end;
     let definitions = names + (names - s.start);
-    mark_keys(tables, true, work, s, names);
-    mark_keys(tables, false, work, s, definitions);
+    mark_keys(tables, KeyKind::ItemName, work, s, names);
+    mark_keys(tables, KeyKind::Definition, work, s, definitions);
 }
 
 // Whether the mark is among them. No way out at the first: so the compiler takes several at a time.

@@ -1,8 +1,8 @@
-use Rattle.pairing.specs.Keys.{key_by}
+use Rattle.pairing.specs.Keys.{is_name, key_by}
 use Rattle.pairing.proofs.Laws.Marks.{Marking}
 use Rattle.pairing.proofs.marks.mark_keys.Given as goal
 use Rattle.pairing.specs.Lent.{fixed_of, model_in}
 
 abbrev pub invariant-loop-k : goal.invariant-loop-k
 invariant-loop-k l =
-    Marking (key_by l.by_name (fixed_of l.tables) (model_in l.tables)) l.start l.n l.to l.initial.work l.work l.k
+    Marking (key_by (is_name l.kind) (fixed_of l.tables) (model_in l.tables)) l.start l.n l.to l.initial.work l.work l.k

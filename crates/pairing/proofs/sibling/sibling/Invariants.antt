@@ -2,6 +2,7 @@ use mathlib.Core.Path.{◌≡◌}
 use Prim.Native.Nat.{◌-◌, ◌≤◌}
 use lib.ListN.{length, drop}
 use Rattle.tables.specs.Lists.{first_of}
+use Rattle.pairing.specs.Keys.{is_name}
 use Rattle.pairing.proofs.Laws.Siblings.{fits, Compared}
 use Rattle.pairing.proofs.sibling.sibling.Given as goal
 
@@ -10,7 +11,7 @@ invariant-loop-j l = Compared l.deck l.s l.start l.size l.j
 
 abbrev pub invariant-siblings : goal.invariant-siblings
 invariant-siblings l =
-    let t = fits l.tables l.by_name l.n.0 l.key in
+    let t = fits l.tables (is_name l.kind) l.n.0 l.key in
     (l.k ≤ length l.second) × (first_of t (drop l.k l.second) ≡ first_of t l.second)
 
 abbrev pub decreases-siblings : goal.decreases-siblings
