@@ -9,7 +9,7 @@ ghost use Rattle.pairing.specs.Lent.{fixed_of, model_in, element_count};
 ghost use Rattle.pairing.specs.Actions.{Listed, Acts, Decides, Searches};
 ghost use Rattle.pairing.specs.Keys.{KeyMarks};
 
-use crate::keys::{KeyKind, is_identifiable, key_of, sole_text, stored_text};
+use crate::keys::{KeyKind, compared_key, is_identifiable, key_of, sole_text, stored_text};
 use crate::lent::Tables;
 use crate::sibling::{same_key, sibling};
 use schema_calls::calls::row_of_name;
@@ -49,11 +49,9 @@ fn action_by_path(tables: &Tables, t: TypeNumber, a: Element, b: Element) -> Act
 {
     let p = path_of(tables.schema, t, element_name(tables.elements, a));
     let q = path_of(tables.schema, t, element_name(tables.elements, b));
-    let o = p.order(q);
-    match o {
+    match p.order(q) {
         Ordering::Less => Action::AOnly,
-        Ordering::Equal => Action::BOnly,
-        Ordering::Greater => Action::BOnly,
+        Ordering::Equal | Ordering::Greater => Action::BOnly,
     }
 }
 
@@ -66,19 +64,14 @@ fn same_element_text(tables: &Tables, a: Element, b: Element) -> bool
 {
     let first = sole_text(tables, a);
     let second = sole_text(tables, b);
-    match first {
-        Some(t) => match second {
-            Some(u) => same_text(
-                stored_text(tables.elements, t),
-                stored_text(tables.elements, u),
-                tables.deck,
-            ),
-            None => false,
-        },
-        None => match second {
-            Some(_) => false,
-            None => true,
-        },
+    match (first, second) {
+        (Some(t), Some(u)) => same_text(
+            stored_text(tables.elements, t),
+            stored_text(tables.elements, u),
+            tables.deck,
+        ),
+        (None, None) => true,
+        _ => false,
     }
 }
 
@@ -94,23 +87,16 @@ pub fn cursor_action(tables: &Tables, t: TypeNumber, a: Element, b: Element) -> 
     if m != n {
         return Some(action_by_path(tables, t, a, b));
     }
-    if is_identifiable(tables, a) {
-        let key = key_of(tables, KeyKind::ItemName, a);
-        let other = key_of(tables, KeyKind::ItemName, b);
-        if same_key(tables.deck, key, other) {
-            return Some(Action::MergeEqual);
-        }
+    let kind = compared_key(tables, a);
+    let key = key_of(tables, kind, a);
+    let other = key_of(tables, kind, b);
+    if !same_key(tables.deck, key, other) {
         return None;
     }
-    let key = key_of(tables, KeyKind::Definition, a);
-    let other = key_of(tables, KeyKind::Definition, b);
-    if same_key(tables.deck, key, other) {
-        if same_element_text(tables, a, b) {
-            return Some(Action::MergeEqual);
-        }
-        return Some(Action::AOnly);
+    if kind == KeyKind::ItemName || same_element_text(tables, a, b) {
+        return Some(Action::MergeEqual);
     }
-    None
+    Some(Action::AOnly)
 }
 
 // Names equal and keys different, A identifiable.

@@ -141,6 +141,18 @@ pub fn key_of(tables: &Tables, kind: KeyKind, e: Element) -> Option<Place>
     }
 }
 
+// By which of the two an element is compared: one that is identifiable by its item name.
+pub fn compared_key(tables: &Tables, e: Element) -> KeyKind
+    requires { e.0 < element_count tables.now }
+    ensures { is_name result ≡ identifiable (fixed_of tables.now) (model_in tables.now) e.0 }
+{
+    if is_identifiable(tables, e) {
+        KeyKind::ItemName
+    } else {
+        KeyKind::Definition
+    }
+}
+
 // The place of a key; of a missing one, no byte.
 pub fn span_of(key: Option<Place>) -> Place
     ensures { place_of result ≡ span_of key }

@@ -1,6 +1,7 @@
 -- Laws of the action of two cursor children, way by way. Assumes nothing.
 use mathlib.Core.Bool.{Bool, true, false}
 use mathlib.Core.List.{List, []}
+use mathlib.Core.Logic.{◌⊎◌, inl, inr}
 use mathlib.Core.Option.{Option, none, some}
 use mathlib.Core.Path.{◌≡◌, refl, sym, ap, ◌∙◌}
 use Prim.Native.Nat.{ℕ, Ordering}
@@ -25,7 +26,9 @@ use Rattle.std.specs.Prelude.{Some, None}
 use Rattle.pairing.specs.declared.action.Action as program
 use Rattle.pairing.specs.declared.action.Action.TheVariants.{MergeEqual, MergeUnequal, AOnly, BOnly, UnmergeableParent}
 use Rattle.pairing.specs.Actions.{Acts, Sought, Decision, Decides}
-use Rattle.pairing.specs.Keys.{Key, key_is, Keys, key_by, Child, FindsChild}
+use Rattle.pairing.specs.declared.keys.KeyKind.{KeyKind}
+use Rattle.pairing.specs.declared.keys.KeyKind.TheVariants.{ItemName, Definition}
+use Rattle.pairing.specs.Keys.{Key, key_is, Keys, is_name, key_by, Child, FindsChild}
 use Rattle.pairing.proofs.Laws.Keys.{child-at, child-within, child-missing}
 
 -- ---- names differ
@@ -71,13 +74,10 @@ module _ (n : ℕ) (x : Fixed) (t a b : ℕ) {na nb : ℕ} (ea : na ≡ name_of 
   unfolding by_order
   path-less k = record { is = sym (ordered ∙ ap by_order k); within = tt }
 
-  pub path-equal : o ≡ Equal → Acts n BOnly (action_by_path x t a b)
+  pub path-not-less : (o ≡ Equal) ⊎ (o ≡ Greater) → Acts n BOnly (action_by_path x t a b)
   unfolding by_order
-  path-equal k = record { is = sym (ordered ∙ ap by_order k); within = tt }
-
-  pub path-greater : o ≡ Greater → Acts n BOnly (action_by_path x t a b)
-  unfolding by_order
-  path-greater k = record { is = sym (ordered ∙ ap by_order k); within = tt }
+  path-not-less (inl k) = record { is = sym (ordered ∙ ap by_order k); within = tt }
+  path-not-less (inr k) = record { is = sym (ordered ∙ ap by_order k); within = tt }
 
 -- ---- the texts
 
@@ -141,6 +141,13 @@ module _ {n : ℕ} (x : Fixed) (m : Model) (t : ℕ) (splittable : Bool) (bs : L
       record { is = o.is ∙ rw (action_of, eq-eqb (name_of x a) (name_of x b) d.name, sym ei ∙ k); within = o.within }
 
 -- ---- what the cursor children decide
+
+pub is-name : (k : KeyKind) → k ≡ ItemName → is_name k ≡ true
+is-name k h = ap is_name h
+
+pub not-name : (k : KeyKind) → (k ≡ ItemName → ⊥) → is_name k ≡ false
+not-name ItemName h = absurd (h refl)
+not-name Definition h = refl
 
 keys-same : {deck : List ℕ} {j k : Key} {o p : Option (List ℕ)} → Keys deck j o → Keys deck k p → {r : Bool} → r ≡ same_key (key_is deck j) (key_is deck k) → same_key o p ≡ r
 keys-same f g e = sym (e ∙ (λ i. same_key (f.is i) (g.is i)))
