@@ -150,29 +150,21 @@ pub fn advance(work: &mut [u16], uses: &mut [Use], s: Sides, c: Cursors, act: Ac
             Cursors {
                 a: i + 1,
                 b: c.b + 1,
-                new: c.new,
+                ..c
             }
         }
         Action::MergeUnequal(m) => {
             let e = m.0;
             pair_row(work, uses, i, e);
-            Cursors {
-                a: i + 1,
-                b: c.b,
-                new: c.new,
-            }
+            Cursors { a: i + 1, ..c }
         }
-        Action::AOnly => Cursors {
-            a: i + 1,
-            b: c.b,
-            new: c.new,
-        },
+        Action::AOnly => Cursors { a: i + 1, ..c },
         Action::BOnly => {
             let new = import_next(work, uses, s, c, i);
             Cursors {
-                a: i,
                 b: c.b + 1,
                 new,
+                ..c
             }
         }
         Action::UnmergeableParent => c,

@@ -44,13 +44,7 @@ fn candidate_at(
     }
     let k = key_of(tables, kind, b);
     match (k, key) {
-        (Some(q), Some(p)) => {
-            if q.size == p.size {
-                Some(q.start)
-            } else {
-                None
-            }
-        }
+        (Some(q), Some(p)) if q.size == p.size => Some(q.start),
         (None, None) => Some(0),
         _ => None,
     }
@@ -79,6 +73,7 @@ pub fn sibling(
     let start = span.start;
     let size = span.size;
     let mut k: usize = 0;
+    // No `for`: the labelled outer loop and the inner one are those of document 01.
     'siblings: loop {
         let at = next_marked(marks, k, mark);
         if second.len() <= at {

@@ -18,10 +18,11 @@ use crate::plan::{
 };
 use schema_calls::calls::splittable_in;
 use tables::elements::element_type;
+use tables::limits::ELEMENT_LIMIT;
 use tables::model::list_length;
 use tables::numbers::{Element, TypeNumber};
 
-// The action of one step, and whether the marks of B's children are now written.
+// The action of one step, and whether the marks of B's children are now written: a flag, since the slice that holds them is lent anew in each step.
 #[derive(Clone, Copy)]
 struct Next {
     act: Action,
@@ -134,9 +135,10 @@ fn walk(
         planned_is result work.new ≡ checked_plan bs (walk_on act end 0 (first_children s work.old) bs []) }
     ensures plan_in { PlanIn (element_count tables.now) result work.new }
 {
-    let mut uses = [Use::Unused; 1024];
+    let mut uses = [Use::Unused; ELEMENT_LIMIT];
     let mut c = Cursors { a: 0, b: 0, new: 0 };
     let mut marked = false;
+    // No `for`: the action says which cursor moves.
     while c.a < s.rows {
         let next = next_action(tables, t, splittable, work, s, c, marked);
         marked = next.marked;
