@@ -91,14 +91,14 @@ pub fn append_element_line(
     model: &[u64],
     out: &mut [u8],
     w: Written,
-    e: usize,
+    e: Element,
 ) -> Written
     requires readable { Readable deck.now elements.now model.now }
-    requires e_bound { e < count_of (model_of model.now) }
-    ensures { (schema : List ℕ) → Appends (buffer_is w out.old) (element_line (fixed_in deck.now schema elements.now) (model_of model.now) e) (buffer_is result out.new) }
+    requires e_bound { e.0 < count_of (model_of model.now) }
+    ensures { (schema : List ℕ) → Appends (buffer_is w out.old) (element_line (fixed_in deck.now schema elements.now) (model_of model.now) e.0) (buffer_is result out.new) }
 {
-    let depth = element_depth(elements, Element(e));
-    let name = element_name(elements, Element(e));
-    let set = set_of(model, Element(e));
+    let depth = element_depth(elements, e);
+    let name = element_name(elements, e);
+    let set = set_of(model, e);
     append_row(out, w, depth, name.0, set.bits())
 }

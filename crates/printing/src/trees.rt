@@ -26,12 +26,12 @@ fn append_element(
     model: &[u64],
     out: &mut [u8],
     w: Written,
-    e: usize,
+    e: Element,
     left: u64,
 ) -> Written
     requires readable { Readable deck.now elements.now model.now }
-    requires e_bound { e < count_of (model_of model.now) }
-    ensures { (schema : List ℕ) → Appends (buffer_is w out.old) (element_lines left (fixed_in deck.now schema elements.now) (model_of model.now) e) (buffer_is result out.new) }
+    requires e_bound { e.0 < count_of (model_of model.now) }
+    ensures { (schema : List ℕ) → Appends (buffer_is w out.old) (element_lines left (fixed_in deck.now schema elements.now) (model_of model.now) e.0) (buffer_is result out.new) }
 {
     if left == 0 {
         return w;
@@ -48,17 +48,17 @@ fn append_items(
     model: &[u64],
     out: &mut [u8],
     w: Written,
-    e: usize,
+    e: Element,
     left: u64,
 ) -> Written
     requires readable { Readable deck.now elements.now model.now }
-    requires e_bound { e < count_of (model_of model.now) }
-    ensures { (schema : List ℕ) → Appends (buffer_is w out.old) (item_lines (element_lines left (fixed_in deck.now schema elements.now) (model_of model.now)) (fixed_in deck.now schema elements.now) (suc (depth_of (fixed_in deck.now schema elements.now) e)) (list_of (model_of model.now) e)) (buffer_is result out.new) }
+    requires e_bound { e.0 < count_of (model_of model.now) }
+    ensures { (schema : List ℕ) → Appends (buffer_is w out.old) (item_lines (element_lines left (fixed_in deck.now schema elements.now) (model_of model.now)) (fixed_in deck.now schema elements.now) (suc (depth_of (fixed_in deck.now schema elements.now) e.0)) (list_of (model_of model.now) e.0)) (buffer_is result out.new) }
 {
-    let depth = element_depth(elements, Element(e)) + 1;
+    let depth = element_depth(elements, e) + 1;
     let mut k = w;
-    for i in 0..list_length(model, Element(e)) {
-        let a = item_at(model, Element(e), i);
+    for i in 0..list_length(model, e) {
+        let a = item_at(model, e, i);
         k = append_item(deck, elements, model, out, k, a, depth, left);
     }
     k
@@ -84,10 +84,7 @@ fn append_item(
         return w;
     }
     match a {
-        Item::Child(x) => {
-            let e = x.0;
-            append_element(deck, elements, model, out, w, e, left)
-        }
+        Item::Child(e) => append_element(deck, elements, model, out, w, e, left),
         Item::Text(t) => append_text_line(deck, elements, model, out, w, t, depth),
     }
 }
@@ -105,7 +102,7 @@ pub fn append_model(
     requires { Readable deck.now elements.now model.now }
     ensures { (schema : List ℕ) → Appends (buffer_is w out.old) (model_lines (fixed_in deck.now schema elements.now) (model_of model.now)) (buffer_is result out.new) }
 {
-    append_element(deck, elements, model, out, w, 0, LEVELS)
+    append_element(deck, elements, model, out, w, Element(0), LEVELS)
 }
 
 // The tree t.
@@ -123,10 +120,9 @@ fn append_tree(
 {
     let f = tree_file(elements, t);
     let root = tree_root(elements, t);
-    let e = root.0;
     let k = append_bytes(out, w, b"B,");
     let l = append_number(out, k, f.0, 10, b'\n');
-    append_element(deck, elements, model, out, l, e, LEVELS)
+    append_element(deck, elements, model, out, l, root, LEVELS)
 }
 
 // The trees that wait: those whose files are not loaded.

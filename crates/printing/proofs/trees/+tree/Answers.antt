@@ -27,18 +27,18 @@ append_item-returns-in-Text t c = λ schema. reads (text-lines _ _ _ _ _ c.in-Te
 pub append_items-append_item-k-requires : goal.append_items-append_item-k-requires
 append_items-append_item-k-requires t c =
     let i = c.loop-i.i in
-    let l : i < length (list_of (model_of c.args.model.now) c.args.e) = omega (arith, c.list_length-i-end.ensures) in
-    (omega arith, (c.requires.readable, listed_in c.requires.readable c.args.e i _ l c.item_at-a.ensures))
+    let l : i < length (list_of (model_of c.args.model.now) c.args.e.0) = omega (arith, c.list_length-i-end.ensures) in
+    (omega arith, (c.requires.readable, listed_in c.requires.readable c.args.e.0 i _ l c.item_at-a.ensures))
 
 pub append_items-loop-i-preserved : goal.append_items-loop-i-preserved
 append_items-loop-i-preserved t c =
     let i = c.loop-i.i in
     let h = c.loop-i-test.true in
-    let l : i < length (list_of (model_of c.args.model.now) c.args.e) = omega (arith, c.list_length-i-end.ensures, h) in
+    let l : i < length (list_of (model_of c.args.model.now) c.args.e.0) = omega (arith, c.list_length-i-end.ensures, h) in
     let d = add-one _ ∙ ap suc c.element_depth-depth.ensures in
     λ schema. items-turn _ _ _ _ i l c.item_at-a.ensures d (c.loop-i.invariant schema) (c.append_item-k.ensures schema)
 
 pub append_items-returns : goal.append_items-returns
 append_items-returns t c =
-    let l : length (list_of (model_of c.args.model.now) c.args.e) ≤ c.loop-i.i = omega (arith, c.list_length-i-end.ensures) in
+    let l : length (list_of (model_of c.args.model.now) c.args.e.0) ≤ c.loop-i.i = omega (arith, c.list_length-i-end.ensures) in
     λ schema. items-end _ _ _ _ _ l (c.loop-i.invariant schema)

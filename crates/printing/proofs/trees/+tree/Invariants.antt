@@ -30,6 +30,6 @@ invariant-append_items-loop-i l =
     (schema : List ℕ)
     → Leaves
     (buffer_is l.initial.k l.initial.out)
-    (items l.deck l.elements l.model schema l.left l.e (list_of (model_of l.model) l.e))
+    (items l.deck l.elements l.model schema l.left l.e.0 (list_of (model_of l.model) l.e.0))
     (buffer_is l.k l.out)
-    (items l.deck l.elements l.model schema l.left l.e (drop l.i (list_of (model_of l.model) l.e)))
+    (items l.deck l.elements l.model schema l.left l.e.0 (drop l.i (list_of (model_of l.model) l.e.0)))
