@@ -1,11 +1,7 @@
 use Rattle.tables.specs.Paths.{front}
-use Rattle.schema_calls.proofs.Laws.Scans.{found_within}
 use Rattle.state_test.specs.StateTest.{fixed_in}
 use Rattle.pairing.proofs.Laws.Actions.{path-found, path-missing}
 use Rattle.pairing.proofs.action.path_of.Goals as goal
-
-pub row_path-requires : goal.row_path-requires
-row_path-requires c = record { good_schema = c.requires; i_in_bounds = found_within c.row_of_name-row.ensures c.in-Some.is }
 
 pub returns-in-Some : goal.returns-in-Some
 returns-in-Some c =

@@ -1,4 +1,3 @@
-use Rattle.schema_calls.proofs.Laws.Scans.{found_within}
 use Rattle.pairing.proofs.Laws.Keys.{string-missing, string-found}
 use Rattle.pairing.specs.Lent.{fixed_of, model_in}
 use Rattle.pairing.proofs.keys.sole_string.Goals as goal
@@ -8,9 +7,6 @@ returns-in_err-t c =
     let x = fixed_of c.args.tables.now in
     let m = model_in c.args.tables.now in
     rw c.from_residual.ensures (string-missing x m c.args.e.0 c.sole_text.ensures c.in_err-t.was)
-
-pub string_key-requires : goal.string_key-requires
-string_key-requires c = found_within c.sole_text.ensures c.in_ok-t.was
 
 pub returns : goal.returns
 returns c =

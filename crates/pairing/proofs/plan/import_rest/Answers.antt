@@ -1,5 +1,4 @@
-use mathlib.Core.Path.{◌≡◌, ◌∙◌}
-use Prim.Native.Nat.{◌-◌}
+use mathlib.Core.Path.{◌∙◌}
 use native.Mathlib.Omega.{arith}
 use Rattle.pairing.proofs.Laws.Steps.{passes-left}
 use Rattle.pairing.proofs.Laws.Ways.{walks-then}
@@ -11,9 +10,3 @@ loop-b-preserved c = (
   c.import_next-new.auto.work ∙ c.loop-b.invariant.1,
   c.import_next-new.auto.uses ∙ c.loop-b.invariant.2,
 )
-
-pub returns : goal.returns
-returns c =
-    let r = c.loop-b.invariant.0.room in
-    let e : c.args.s.end - c.args.s.start ≡ c.loop-b.b = omega (arith, r.second, c.loop-b-test.false) in
-    rw e c.loop-b.invariant.0
