@@ -6,7 +6,7 @@ ghost use Rattle.deck.specs.Deck.{field};
 ghost use Rattle.deck.specs.Answers.{part_at, fields_of, Placed, num_is};
 ghost use Rattle.merge_rules.specs.CallLists.{word_field, line_merge, line_rollback, line_range, line_alone, by_word, read_request};
 ghost use Rattle.merge_rules.specs.CallLists as rules;
-ghost use Rattle.requests.specs.Requests.{request_is};
+ghost use Rattle.requests.specs.Requests.{request_is, only_number};
 
 use deck::fields::WORD_LIMIT;
 use deck::lines::{Fields, number_at, places, split};
@@ -49,30 +49,13 @@ pub fn word_at(calls: &[u8], f: Fields, i: usize) -> Option<u64>
     number_at(calls, f, i, 10, WORD_LIMIT)
 }
 
-// `merge,file`
-fn line_merge(calls: &[u8], f: Fields) -> Option<Request>
+// The one number of a line with a word before it and nothing behind.
+fn only_number(calls: &[u8], f: Fields) -> Option<u64>
     requires { Placed calls.now f }
-    ensures { request_is result ≡ line_merge (fields_of calls.now f) }
+    ensures { num_is result ≡ only_number (fields_of calls.now f) }
 {
-    let file = word_at(calls, f, 1)?;
-    if f.count == 2 {
-        Some(Request::Merge(file))
-    } else {
-        None
-    }
-}
-
-// `rollback,mark`
-fn line_rollback(calls: &[u8], f: Fields) -> Option<Request>
-    requires { Placed calls.now f }
-    ensures { request_is result ≡ line_rollback (fields_of calls.now f) }
-{
-    let mark = word_at(calls, f, 1)?;
-    if f.count == 2 {
-        Some(Request::Rollback(mark))
-    } else {
-        None
-    }
+    let n = word_at(calls, f, 1)?;
+    (f.count == 2).then_some(n)
 }
 
 // `range,element,name,version`
@@ -83,15 +66,11 @@ fn line_range(calls: &[u8], f: Fields) -> Option<Request>
     let element = word_at(calls, f, 1)?;
     let name = word_at(calls, f, 2)?;
     let version = word_at(calls, f, 3)?;
-    if f.count == 4 {
-        Some(Request::Range {
-            element,
-            name,
-            version,
-        })
-    } else {
-        None
-    }
+    (f.count == 4).then_some(Request::Range {
+        element,
+        name,
+        version,
+    })
 }
 
 // `model`, `trees`, `log`
@@ -99,7 +78,7 @@ fn line_alone(f: Fields, r: Request) -> Option<Request>
     ensures { (calls : List ℕ) → Placed calls f → (q : rules.Request) → request_is (Some r) ≡ some q
         → request_is result ≡ line_alone q (fields_of calls f) }
 {
-    if f.count == 1 { Some(r) } else { None }
+    (f.count == 1).then_some(r)
 }
 
 // The line of its first word.
@@ -107,11 +86,12 @@ fn by_word(calls: &[u8], f: Fields) -> Option<Request>
     requires { Placed calls.now f }
     ensures { request_is result ≡ by_word (fields_of calls.now f) }
 {
+    // No match on the bytes: the check takes it apart byte by byte, into 31 places where no word is met.
     if begins_with(calls, f, b"merge") {
-        return line_merge(calls, f);
+        return Some(Request::Merge(only_number(calls, f)?));
     }
     if begins_with(calls, f, b"rollback") {
-        return line_rollback(calls, f);
+        return Some(Request::Rollback(only_number(calls, f)?));
     }
     if begins_with(calls, f, b"range") {
         return line_range(calls, f);

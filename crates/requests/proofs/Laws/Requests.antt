@@ -1,12 +1,12 @@
 -- Laws of a line of a list of calls: its words, its numbers, and the count of its fields. Assumes nothing.
 use Rattle.std.specs.Prelude.{Option as OptionOf, Some, None}
+use Rattle.std.specs.Bool.{then_some}
 use mathlib.Core.Bool.{Bool, true, false, ◌&&◌}
 use mathlib.Core.List.{List, [], ◌∷◌}
 use mathlib.Core.Option.{Option, none, some, bind}
 use mathlib.Core.Path.{◌≡◌, refl, sym, ap, ◌∙◌}
 use Prim.Native.Nat.{ℕ, zero, suc, ◌<◌}
 use native.Mathlib.Omega.{arith}
-use borrow.Author.Tests.{eq-eqb, ne_eqb}
 use lib.Dec.{eqb, eqb-suc-zero, eqb-suc-suc}
 use lib.ListN.{length, take}
 use lib.Pointwise.{pointwise}
@@ -16,9 +16,11 @@ use Rattle.deck.specs.Deck.{Part, field, fields, only}
 use Rattle.deck.specs.Answers.{fields_of, Placed, Splits}
 use Rattle.deck.specs.declared.lines.Fields.{Fields}
 use Rattle.deck.proofs.Laws.Lines.{fields-count}
-use Rattle.merge_rules.specs.CallLists.{Request, line_merge, line_rollback, line_range, line_alone, of_model, of_trees, of_log, words, by_word, read_request}
+use Rattle.merge_rules.specs.Book.{call_merge, call_rollback}
+use Rattle.merge_rules.specs.CallLists.{Request, of_call, word_field, line_merge, line_rollback, line_range, line_alone, of_model, of_trees, of_log, words, by_word, read_request}
 use Rattle.merge_rules.proofs.Laws.Lists.{each_in, first_of-some}
 use Rattle.deck.specs.Answers.{num_is}
+use Rattle.requests.specs.Requests.{only_number}
 
 -- ---- two words
 
@@ -36,7 +38,7 @@ equal-same (a ∷ s) (b ∷ w) = both (eqb a b) (equal-same s w)
 
 -- ---- a number of a line, and the count of its fields
 
-module _ (o : Option ℕ) (n : OptionOf ℕ) (e : num_is n ≡ o) (k : ℕ → Option Request) where
+module _ {A : Type 0} (o : Option ℕ) (n : OptionOf ℕ) (e : num_is n ≡ o) (k : ℕ → Option A) where
   pub word-missing : n ≡ None → none ≡ bind o k
   unfolding num_is bind
   word-missing h = rw (← e, h)
@@ -45,14 +47,32 @@ module _ (o : Option ℕ) (n : OptionOf ℕ) (e : num_is n ≡ o) (k : ℕ → O
   unfolding num_is bind
   word-read v h = rw (← e, h)
 
-module _ (calls : List ℕ) (f : Fields) (w : Placed calls f) (n : ℕ) (q : Request) where
-  pub count-other : (f.count ≡ n → ⊥) → none ≡ only (eqb (length (fields_of calls f)) n) q
+-- what stands for an answer of a line of so many fields
+module _ {A B : Type 0} (meaning : OptionOf A → Option B) (nothing : meaning None ≡ none) (calls : List ℕ) (f : Fields) (w : Placed calls f) (n : ℕ) where
+  due : (b : Bool) (x : A) (q : B) → meaning (Some x) ≡ some q → meaning (then_some b x) ≡ only b q
   unfolding only
-  count-other h = rw (fields-count calls f w, ne_eqb f.count n h)
+  due true x q h = h
+  due false x q h = nothing
 
-  pub count-due : f.count ≡ n → some q ≡ only (eqb (length (fields_of calls f)) n) q
-  unfolding only
-  count-due h = rw (fields-count calls f w, eq-eqb f.count n h)
+  pub count-due : {r : OptionOf A} {x : A} {q : B} → r ≡ then_some (eqb f.count n) x → meaning (Some x) ≡ some q
+      → meaning r ≡ only (eqb (length (fields_of calls f)) n) q
+  count-due {x = x} {q = q} e h = rw (e, fields-count calls f w) (due (eqb f.count n) x q h)
+
+-- the number of a line that has no other field, and what is made of it
+one-made : (k : ℕ → Request) (o : Option ℕ) (b : Bool)
+    → bind (bind o (λ (v : ℕ). only b v)) (λ (v : ℕ). some (k v)) ≡ bind o (λ (v : ℕ). only b (k v))
+unfolding bind only
+one-made k none b = refl
+one-made k (some v) true = refl
+one-made k (some v) false = refl
+
+pub merge-line : (l : List Part) → bind (only_number l) (λ (v : ℕ). some (of_call (call_merge v))) ≡ line_merge l
+unfolding only_number line_merge
+merge-line l = one-made (λ (v : ℕ). of_call (call_merge v)) (word_field (field l 1)) (eqb (length l) 2)
+
+pub rollback-line : (l : List Part) → bind (only_number l) (λ (v : ℕ). some (of_call (call_rollback v))) ≡ line_rollback l
+unfolding only_number line_rollback
+rollback-line l = one-made (λ (v : ℕ). of_call (call_rollback v)) (word_field (field l 1)) (eqb (length l) 2)
 
 -- ---- a line by its first word
 

@@ -7,7 +7,7 @@ use Rattle.tables.specs.Lists.{first_of, same_list}
 use Rattle.deck.specs.Deck.{Part, field}
 use Rattle.deck.specs.Answers.{fields_of}
 use Rattle.merge_rules.specs.CallLists.{line_merge, line_rollback, line_range, line_alone, of_model, of_trees, of_log, words, by_word}
-use Rattle.requests.proofs.Laws.Requests.{Word, read_by, word-here, word-behind}
+use Rattle.requests.proofs.Laws.Requests.{Word, read_by, word-missing, word-read, merge-line, rollback-line, word-here, word-behind}
 use Rattle.requests.proofs.requests.by_word.Goals as goal
 
 -- the line is read by one of these words
@@ -44,11 +44,21 @@ module _ (l : List Part) where
   unfolding bytes
   not-log e h left = word-behind _ (bytes "log", line_alone of_log) (drop 6 words) l _ e h ∙ left
 
+pub returns-in_err-only_number : goal.returns-in_err-only_number
+unfolding bytes
+returns-in_err-only_number c =
+    let l = fields_of c.args.calls.now c.args.f in
+    rw c.from_residual.ensures (word-missing _ _ c.only_number.ensures _ c.in_err-only_number.was)
+    ∙ merge-line l
+    ∙ word-here _ (bytes "merge", line_merge) (drop 1 words) l _ c.begins_with.ensures c.if-begins_with.true
+    ∙ start l
+
 pub returns-then-begins_with : goal.returns-then-begins_with
 unfolding bytes
 returns-then-begins_with c =
     let l = fields_of c.args.calls.now c.args.f in
-    c.line_merge.ensures
+    word-read _ _ c.only_number.ensures _ _ c.in_ok-only_number.was
+    ∙ merge-line l
     ∙ word-here _ (bytes "merge", line_merge) (drop 1 words) l _ c.begins_with.ensures c.if-begins_with.true
     ∙ start l
 
@@ -56,7 +66,17 @@ pub returns-then-begins_with-2 : goal.returns-then-begins_with-2
 unfolding bytes
 returns-then-begins_with-2 c =
     let l = fields_of c.args.calls.now c.args.f in
-    c.line_rollback.ensures
+    word-read _ _ c.only_number-then-begins_with-2.ensures _ _ c.in_ok-only_number-2.was
+    ∙ rollback-line l
+    ∙ word-here _ (bytes "rollback", line_rollback) (drop 2 words) l _ c.begins_with-2.ensures c.if-begins_with-2.true
+    ∙ not-merge l c.begins_with.ensures c.if-begins_with.false
+
+pub returns-in_err-only_number-2 : goal.returns-in_err-only_number-2
+unfolding bytes
+returns-in_err-only_number-2 c =
+    let l = fields_of c.args.calls.now c.args.f in
+    rw c.from_residual-in_err-only_number-2.ensures (word-missing _ _ c.only_number-then-begins_with-2.ensures _ c.in_err-only_number-2.was)
+    ∙ rollback-line l
     ∙ word-here _ (bytes "rollback", line_rollback) (drop 2 words) l _ c.begins_with-2.ensures c.if-begins_with-2.true
     ∙ not-merge l c.begins_with.ensures c.if-begins_with.false
 

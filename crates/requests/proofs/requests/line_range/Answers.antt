@@ -1,6 +1,7 @@
-use mathlib.Core.Path.{◌∙◌}
+use mathlib.Core.Path.{refl, ◌∙◌}
 use Rattle.merge_rules.specs.CallLists.{line_range}
-use Rattle.requests.proofs.Laws.Requests.{word-missing, word-read, count-other, count-due}
+use Rattle.requests.specs.Requests.{request_is}
+use Rattle.requests.proofs.Laws.Requests.{word-missing, word-read, count-due}
 use Rattle.requests.proofs.requests.line_range.Goals as goal
 
 pub returns-in_err-element : goal.returns-in_err-element
@@ -21,18 +22,10 @@ returns-in_err-version c =
     ∙ word-read _ _ c.word_at-2.ensures _ _ c.in_ok-name.was
     ∙ word-read _ _ c.word_at.ensures _ _ c.in_ok-element.was)
 
-pub returns-then-f-eq4 : goal.returns-then-f-eq4
+pub returns : goal.returns
 unfolding line_range
-returns-then-f-eq4 c =
-    count-due c.args.calls.now c.args.f c.requires 4 _ c.if-f-eq4.true
-    ∙ word-read _ _ c.word_at-3.ensures _ _ c.in_ok-version.was
-    ∙ word-read _ _ c.word_at-2.ensures _ _ c.in_ok-name.was
-    ∙ word-read _ _ c.word_at.ensures _ _ c.in_ok-element.was
-
-pub returns-else-f-eq4 : goal.returns-else-f-eq4
-unfolding line_range
-returns-else-f-eq4 c =
-    count-other c.args.calls.now c.args.f c.requires 4 _ c.if-f-eq4.false
+returns c =
+    count-due request_is refl c.args.calls.now c.args.f c.requires 4 c.then_some.ensures refl
     ∙ word-read _ _ c.word_at-3.ensures _ _ c.in_ok-version.was
     ∙ word-read _ _ c.word_at-2.ensures _ _ c.in_ok-name.was
     ∙ word-read _ _ c.word_at.ensures _ _ c.in_ok-element.was
