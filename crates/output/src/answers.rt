@@ -44,7 +44,7 @@ pub fn append_refused_deck(out: &mut [u8], w: Written, number: u64, line: u64) -
 // ---- refusals
 
 // A number, or `-`, and a byte behind it.
-fn append_optional(out: &mut [u8], w: Written, n: Option<u64>, end: u8) -> Written
+pub fn append_optional(out: &mut [u8], w: Written, n: Option<u64>, end: u8) -> Written
     ensures { Appends (buffer_is w out.old) (or_dash (optional_is n) ++ (end ∷ [])) (buffer_is result out.new) }
 {
     match n {

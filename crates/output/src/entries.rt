@@ -8,26 +8,17 @@ ghost use Rattle.merge_rules.specs.CallLists.{entry_line, log_lines};
 ghost use Rattle.merge_rules.specs.Program.{digits_before, decimal_of, hexadecimal_of, or_dash, line_of};
 ghost use Rattle.printing.specs.Buffers.{buffer_is, Appends};
 
+use crate::answers::append_optional;
 use printing::buffer::{Written, append_bytes, append_number};
 use tables::file_set::FileSet;
 use tables::log::{Entry, entry_at, log_length};
 use tables::numbers::Element;
 
-// An old parent with its comma, `-` for none.
-fn append_parent(out: &mut [u8], w: Written, p: Option<Element>) -> Written
-    ensures { Appends (buffer_is w out.old) (or_dash (parent_is p) ++ bytes ",") (buffer_is result out.new) }
-{
-    match p {
-        Some(e) => append_number(out, w, e.0 as u64, 10, b','),
-        None => append_bytes(out, w, b"-,"),
-    }
-}
-
 // An old parent and an old set.
 fn append_old(out: &mut [u8], w: Written, p: Option<Element>, s: FileSet) -> Written
     ensures { Appends (buffer_is w out.old) (line_of (or_dash (parent_is p) ∷ hexadecimal_of (set_is s) ∷ [])) (buffer_is result out.new) }
 {
-    let k = append_parent(out, w, p);
+    let k = append_optional(out, w, p.map(|e| e.0 as u64), b',');
     append_number(out, k, s.bits(), 16, b'\n')
 }
 

@@ -17,6 +17,7 @@ use printing::buffer::Written;
 use printing::trees::{append_model, append_trees};
 use requests::requests::Request;
 
+// Three functions for the three calls, as forged has three: these hold of tables that stand, those of tables that do not.
 pub fn reply_merge(
     deck: &[u8],
     schema: &[u64],

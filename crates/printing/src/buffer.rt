@@ -3,7 +3,8 @@ ghost use Rattle.std.specs.Prelude.{[], ◌∷◌, ◌++◌, ◌≡◌, suc, ◌
 ghost use Rattle.merge_rules.specs.Program.{digit_byte, digits_before};
 ghost use Rattle.printing.specs.Buffers.{buffer_is, is_full, Appends};
 
-// How many bytes of the text are still to be passed over, and the count of bytes written from the buffer's start.
+// How many bytes of the text are still to be passed over, and the count of bytes written from the buffer's start. It goes beside the buffer, which
+// C lends: a struct that holds both would be lent as `&mut` to each function, and each clause would name it before and after, as it does now.
 #[derive(Clone, Copy)]
 pub struct Written {
     pub skip: usize,
@@ -61,6 +62,7 @@ fn digit_byte(d: u64) -> u8
     b'a' + (d - 10) as u8
 }
 
+// The first digit comes last: a loop would need a buffer of its own for the digits.
 fn append_digits(out: &mut [u8], w: Written, n: u64, radix: u64) -> Written
     requires lt_radix { 1 < radix }
     requires radix_bound { radix ≤ 16 }
