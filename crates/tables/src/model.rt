@@ -77,9 +77,8 @@ fn move_up(s: &mut [u64], k: usize, v: u64)
     requires { k ≤ length s.old }
     ensures { s.new ≡ shift_in s.old 0 k v }
 {
-    for j in (0..s.len() - k).rev() {
-        s[j + k] = s[j];
-    }
+    let n = s.len() - k;
+    s.copy_within(..n, k);
     s[..k].fill(v);
 }
 
@@ -109,9 +108,7 @@ fn move_down(s: &mut [u64], k: usize)
     ensures { s.new ≡ shift_out s.old 0 k }
 {
     let n = s.len() - k;
-    for j in 0..n {
-        s[j] = s[j + k];
-    }
+    s.copy_within(k.., 0);
     clear(&mut s[n..]);
 }
 
@@ -139,20 +136,22 @@ fn shift_out(s: &mut [u64], i: usize, k: usize)
 fn raise_from(s: &mut [u64], i: usize, k: u64)
     requires by_index { (j : ℕ) → get_or s.old j 0 ≤ item_limit }
     requires k_le_item_limit { k ≤ item_limit }
+    requires i_in_bounds { i ≤ length s.old }
     ensures { s.new ≡ on_from (λ (x : ℕ). x + k) s.old i }
 {
-    for j in i..s.len() {
-        s[j] += k;
+    for x in &mut s[i..] {
+        *x += k;
     }
 }
 
 // Each entry from a place on, and k less.
 fn lower_from(s: &mut [u64], i: usize, k: u64)
-    requires { (j : ℕ) → i ≤ j → j < length s.old → k ≤ get_or s.old j 0 }
+    requires by_index { (j : ℕ) → i ≤ j → j < length s.old → k ≤ get_or s.old j 0 }
+    requires i_in_bounds { i ≤ length s.old }
     ensures { s.new ≡ on_from (λ (x : ℕ). x - k) s.old i }
 {
-    for j in i..s.len() {
-        s[j] -= k;
+    for x in &mut s[i..] {
+        *x -= k;
     }
 }
 
