@@ -5,7 +5,7 @@ use merge::calls::{merge, range, rollback};
 use output::answers::{append_merge, append_range, append_refused_deck, append_rollback};
 use printing::buffer::{Written, append_bytes, append_number};
 use scripts::areas::{ELEMENTS, LOG, MODEL};
-use scripts::cells::{cut, cut_bytes, not_zero, put_back, take_out};
+use scripts::cells::{cut, not_zero, put_back, take_out};
 use scripts::lines::Call;
 use state_test::state::lent_tables_pass;
 use table_test::test::tables_pass;
@@ -155,7 +155,7 @@ fn lend(
     out: &mut [u8],
     s: State,
 ) -> Written {
-    let d = cut_bytes(s.deck, deck);
+    let d = cut(s.deck, deck);
     let i = cut(s.schema, schema);
     let j = cut(s.elements, elements);
     let k = cut(s.model, model);

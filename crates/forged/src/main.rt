@@ -7,7 +7,7 @@ mod script;
 mod state;
 mod steps;
 
-use scripts::cells::cut_bytes;
+use scripts::cells::cut;
 use scripts::words;
 use std::io;
 use std::rt::Files;
@@ -20,7 +20,7 @@ fn answers_held(
     out: &[u8],
     count: usize,
 ) -> io::Result<bool> {
-    let n = cut_bytes(count, out);
+    let n = cut(count, out);
     held(rt, name, &out[..n])
 }
 

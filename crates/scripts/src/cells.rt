@@ -1,6 +1,5 @@
 // Cells of the tables.
-ghost use Rattle.std.specs.Prelude.{◌≤◌, length};
-ghost use Rattle.printing.specs.Counts.{IsPrefixLen};
+ghost use Rattle.std.specs.Prelude.{◌≡◌, ◌≤◌, length, take};
 
 use crate::areas::Area;
 use printing::buffer::{Written, append_number};
@@ -9,25 +8,16 @@ use tables::index::{INDEX_SIZE, Index};
 use tables::limits::{GROUP_LIMIT, ROW_LIMIT};
 use tables::schema::SCHEMA_SIZE;
 
-// A count, as far as there are cells.
-pub fn cut(n: usize, cells: &[u64]) -> usize
-    ensures { IsPrefixLen result cells.now }
+// A count, as far as there are cells or bytes.
+pub fn cut<T>(n: usize, s: &[T]) -> usize
+    ensures { (result ≤ length s.now) × (result ≡ length (take result s.now)) }
 {
-    n.min(cells.len())
-}
-
-pub fn cut_bytes(n: usize, bytes: &[u8]) -> usize
-    ensures { IsPrefixLen result bytes.now }
-{
-    n.min(bytes.len())
+    n.min(s.len())
 }
 
 // A cell; 0 where there is none.
 fn get(cells: &[u64], i: usize) -> u64 {
-    match cells.get(i) {
-        Some(cell) => *cell,
-        None => 0,
-    }
+    cells.get(i).copied().unwrap_or(0)
 }
 
 fn set(cells: &mut [u64], i: usize, value: u64) {
@@ -84,7 +74,7 @@ pub fn show(cells: &[u64], a: Area, row: u64, rows: u64, out: &mut [u8], w: Writ
     k
 }
 
-// So many cells from one place on are those from another on.
+// So many cells from one place on are those from another on. Cell by cell, as `copy`: a place behind the last cell counts as 0, and slices have none.
 pub fn same(cells: &[u64], from: usize, other: usize, n: usize) -> bool {
     for i in 0..n {
         if get(cells, from.wrapping_add(i)) != get(cells, other.wrapping_add(i)) {
@@ -141,7 +131,7 @@ fn reindex(cells: &mut [u64], x: Index) {
 
 // The indexes that fit the rows.
 pub fn reindex_all(cells: &mut [u64]) {
-    reindex(cells, Index::Groups);
-    reindex(cells, Index::Names);
-    reindex(cells, Index::Paths);
+    for x in [Index::Groups, Index::Names, Index::Paths] {
+        reindex(cells, x);
+    }
 }

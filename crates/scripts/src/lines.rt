@@ -13,7 +13,8 @@ pub enum Table {
     Log,
 }
 
-// A call on the tables as they are lent.
+// A call on the tables as they are lent. It names three requests again: with a Request inside, each match on a call would also meet those that
+// are no step here.
 #[derive(Clone, Copy)]
 pub enum Call {
     Load,
@@ -193,7 +194,7 @@ pub fn read_step(script: &[u8], f: Fields) -> Option<Step<'_>>
     }
 }
 
-// A line of a list of calls; what prints trees or a log there is no step here.
+// A line of a list of calls; what prints trees or a log there is no step here. No TryFrom: there is nothing to say of an error.
 pub fn of_request(r: Request) -> Option<Call> {
     match r {
         Request::Merge(file) => Some(Call::Merge { file }),
