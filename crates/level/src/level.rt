@@ -1,5 +1,5 @@
 // Level and Pairs, which call each other, one depth lower each time.
-ghost use Rattle.std.specs.Prelude.{true, List, [], ◌≡◌, ℕ, ◌+◌, ◌*◌, ◌<◌, ◌≤◌, length};
+ghost use Rattle.std.specs.Prelude.{true, List, [], ◌≡◌, ℕ, ◌+◌, ◌*◌, ◌<◌, ◌≤◌, length, IfSome, IfNone};
 ghost use Rattle.tables.specs.Cells.{Each};
 ghost use Rattle.tables.specs.ElementsTable.{elements_of, GoodElements};
 ghost use Rattle.tables.specs.Limits.{file_limit};
@@ -14,7 +14,7 @@ ghost use Rattle.deck.specs.Schema.{version_of, least_version};
 ghost use Rattle.state_test.specs.StateTest.{fixed_in, state_in};
 ghost use Rattle.merge_rules.specs.Level.{files_of_pair, restrict_elements, merge_sub_elements, level_version, merge_element};
 ghost use Rattle.merge_rules.specs.Pairing.{children_of};
-ghost use Rattle.pairing.specs.Plans.{plan_in, RowsIn};
+ghost use Rattle.pairing.specs.Plans.{plan_in, row_value, RowsIn};
 ghost use Rattle.merge_log.specs.Answers.{outcome_is};
 ghost use Rattle.level.specs.Level.{restrict_new, apply_plan, merge_pair, Bare};
 
@@ -22,7 +22,7 @@ use imports::import::import_new_items;
 use merge_log::log::restrict;
 use merge_log::refusals::{Halt, Refusal};
 use pairing::lent::Tables;
-use pairing::plan::Unplanned;
+use pairing::plan::{Rows, Unplanned};
 use pairing::walk::plan_level;
 use pairs::settle::{extend_pair, files_of_pair, settle};
 use schema_calls::files::least_version;
@@ -68,7 +68,19 @@ fn is_bare(model: &[u64], a: Element, b: Element, depth: usize) -> bool
     depth != 0 && is_leaf(model, a) && is_leaf(model, b)
 }
 
-// An A-only element without a set gets the level's files.
+// The mate of the child of A in row i of a plan.
+fn mate(work: &[u16], i: usize) -> Option<Element>
+    requires { 2 * i + 1 < length work.now }
+    ensures paired { IfSome result (λ b. row_value work.now i ≡ b.0 + 1) }
+    ensures alone { IfNone result (row_value work.now i ≡ 0) }
+{
+    match work[2 * i + 1] {
+        0 => None,
+        b => Some(Element(b as usize - 1)),
+    }
+}
+
+// An A-only element without a set gets the level's files; an empty set is none, in the tables as in the rules.
 fn restrict_new(model: &mut [u64], log: &mut [u64], a: Element, files: FileSet) -> Result<(), Halt>
     requires good_model { GoodModel model.old }
     requires good_log { GoodLog log.old }
@@ -98,11 +110,10 @@ fn restrict_elements(
     ensures keeps_state { KeepsState model.old log.old model.new log.new }
 {
     for i in 0..na {
-        let row = 2 * i;
-        if work[row + 1] != 0 {
+        if mate(work, i).is_some() {
             continue;
         }
-        let a = Element(work[row] as usize);
+        let a = Element(work[2 * i] as usize);
         restrict_new(model, log, a, files)?;
     }
     Ok(())
@@ -115,8 +126,7 @@ fn apply_plan(
     model: &mut [u64],
     log: &mut [u64],
     work: &[u16],
-    na: usize,
-    ni: usize,
+    rows: Rows,
     f: FileNumber,
     version: u64,
     files: FileSet,
@@ -126,15 +136,15 @@ fn apply_plan(
     requires good_elements { GoodElements elements.now }
     requires each { Each (λ (t : ℕ). t < length (schema_of schema.now).types) (elements_of elements.now).types }
     requires state_over { StateOver elements.now model.old log.old }
-    requires rows_in { RowsIn (length (elements_of elements.now).names) work.now na ni }
+    requires rows_in { RowsIn (length (elements_of elements.now).names) work.now rows.first rows.new }
     requires f_lt_file_limit { f.0 < file_limit }
     requires version_value { version ≡ version_of (schema_of schema.now) f.0 }
     requires a_in_bounds { a.0 < length (elements_of elements.now).names }
-    ensures by_index { (deck : List ℕ) → outcome_is result (state_in model.new log.new) ≡ apply_plan (fixed_in deck schema.now elements.now) f.0 (set_is files) a.0 (plan_in na ni work.now) (state_in model.old log.old) }
+    ensures by_index { (deck : List ℕ) → outcome_is result (state_in model.new log.new) ≡ apply_plan (fixed_in deck schema.now elements.now) f.0 (set_is files) a.0 (plan_in rows.first rows.new work.now) (state_in model.old log.old) }
     ensures keeps_state { KeepsState model.old log.old model.new log.new }
 {
-    restrict_elements(model, log, work, na, files)?;
-    import_new_items(schema, elements, model, log, work, na, ni, f, version, a)
+    restrict_elements(model, log, work, rows.first, files)?;
+    import_new_items(schema, elements, model, log, work, rows, f, version, a)
 }
 
 // The version of a pair's level: A without a set has the files of the level above, and so its version.
@@ -211,7 +221,7 @@ fn merge_element(
     ensures keeps_state { KeepsState model.old log.old model.new log.new }
 {
     if depth == 0 {
-        return Err(Halt::Refused(Refusal::Unmergeable(a)));
+        return Err(Refusal::Unmergeable(a).into());
     }
     let tables = Tables {
         deck,
@@ -221,11 +231,11 @@ fn merge_element(
     };
     let rows = match plan_level(&tables, v, a, b, work) {
         Ok(rows) => rows,
-        Err(Unplanned::UsedTwice(c)) => return Err(Halt::Refused(Refusal::UsedTwice(c))),
-        Err(Unplanned::Unmergeable) => return Err(Halt::Refused(Refusal::Unmergeable(a))),
+        Err(Unplanned::UsedTwice(c)) => return Err(Refusal::UsedTwice(c).into()),
+        Err(Unplanned::Unmergeable) => return Err(Refusal::Unmergeable(a).into()),
     };
     apply_plan(
-        schema, elements, model, log, work, rows.first, rows.new, f, version, files, a,
+        schema, elements, model, log, work, rows, f, version, files, a,
     )?;
     merge_sub_elements(
         deck,
@@ -274,13 +284,10 @@ fn merge_sub_elements(
 {
     let rows = 2 * na;
     for i in 0..na {
-        let row = 2 * i;
-        let mate = work[row + 1];
-        if mate == 0 {
+        let Some(b) = mate(work, i) else {
             continue;
-        }
-        let a = Element(work[row] as usize);
-        let b = Element((mate - 1) as usize);
+        };
+        let a = Element(work[2 * i] as usize);
         merge_pair(
             deck,
             schema,

@@ -216,8 +216,8 @@ module _ {lower : FileSet → Element → Element → State → Outcome} {deck s
       pub first-in : row_element w i < length (elements_of elements).names
       first-in = rw row-element (rows.element i (omega arith))
 
-      pub mate-in : (row_value w i ≡ 0 → ⊥) → row_value w i - 1 < length (elements_of elements).names
-      mate-in n = omega (arith, row-value, rows.mate i h)
+      pub mate-in : {b : Element} → row_value w i ≡ b + 1 → b < length (elements_of elements).names
+      mate-in e = omega (arith, row-value, rows.mate i h)
 
     -- an A-only one
     pub pairs-skip : row_value w i ≡ 0 → PairsLeft lower deck schema elements f v p files na w₀ m₀ l₀ w m l (i + 1)
@@ -234,14 +234,15 @@ module _ {lower : FileSet → Element → Element → State → Outcome} {deck s
         }
 
     -- a pair, its answer, and the tables that it left
-    module _ (some : row_value w i ≡ 0 → ⊥) (m' l' : List ℕ) (o : Result (Unit {0}) Halt)
-        (is : outcome_is o (state_in m' l') ≡ merge_pair lower (fixed_in deck schema elements) f v p files (record { a = row_element w i; b = row_value w i - 1 }) (state_in m l)) where
-      here : (merge_pair lower (fixed_in deck schema elements) f v p files (record { a = row_element w i; b = row_value w i - 1 }) (state_in m l)
+    module _ (b : Element) (mate : row_value w i ≡ b + 1) (m' l' : List ℕ) (o : Result (Unit {0}) Halt)
+        (is : outcome_is o (state_in m' l') ≡ merge_pair lower (fixed_in deck schema elements) f v p files (record { a = row_element w i; b = b }) (state_in m l)) where
+      here : (merge_pair lower (fixed_in deck schema elements) f v p files (record { a = row_element w i; b = b }) (state_in m l)
           >>= merge_sub_elements lower (fixed_in deck schema elements) f v p files (spread (pair_in w₀) (i + 1) (na - (i + 1))))
           ≡ merge_sub_elements lower (fixed_in deck schema elements) f v p files (plan_in na 0 w₀).pairs (state_in m₀ l₀)
       unfolding merge_sub_elements merge_pair
       here =
-          sym (rw (spread-here (pair_in w₀) i na h, mated (row_element w₀ i) (row_value w₀ i) (λ z. some (row-value ∙ z)), ← row-element, ← row-value)) ∙ k.left
+          let less : row_value w₀ i - 1 ≡ b = omega (arith, row-value, mate) in
+          sym (rw (spread-here (pair_in w₀) i na h, mated (row_element w₀ i) (row_value w₀ i) (λ z. omega (arith, row-value, mate)), less, ← row-element)) ∙ k.left
 
       pub pairs-stop : (o ≡ Ok tt → ⊥)
           → outcome_is o (state_in m' l') ≡ merge_sub_elements lower (fixed_in deck schema elements) f v p files (plan_in na 0 w₀).pairs (state_in m₀ l₀)

@@ -1,11 +1,13 @@
 -- The restrictions and imports of a plan on the lent tables. Assumes nothing.
-use mathlib.Core.Bool.{Bool, true, false}
+use mathlib.Core.Bool.{Bool, true, false, false≢true}
 use mathlib.Core.List.{List, ◌∷◌}
 use mathlib.Core.Path.{◌≡◌, refl, sym, ◌∙◌}
 use Prim.Native.Nat.{ℕ, ◌+◌, ◌-◌, ◌≤◌, ◌<◌}
 use native.Mathlib.Omega.{arith}
 use lib.Dec.{eqb}
-use Rattle.std.specs.Prelude.{Result, Ok}
+use Rattle.std.specs.Prelude.{Result, Ok, Some, None, IfSome, IfNone, is_some}
+use Rattle.std.specs.Prelude as program_option
+use Rattle.tables.specs.declared.numbers.Element as program_element
 use Rattle.tables.specs.FileSets.{no_set}
 use Rattle.tables.specs.Limits.{item_limit}
 use Rattle.tables.specs.ModelTable.{count_of, model_of}
@@ -108,3 +110,20 @@ module _ (x : Fixed) (f : FileNumber) (files : FileSet) (a : Element) (plan : Pl
   pub apply-imports : o ≡ Ok tt → (v : Version) → v ≡ version_of x.schema f → import_new_items x f v a 0 plan.imports t ≡ apply_plan x f files a plan s
   unfolding apply_plan
   apply-imports d v e = rw e (sym (then-done t _ o is d))
+
+-- ---- a row's mate
+
+module _ (r : program_option.Option program_element.Element) {n : ℕ} where
+  pub mate-some : IfSome r (λ b. n ≡ b.0 + 1) → is_some r ≡ true → n ≡ 0 → ⊥
+  mate-some h e z = go r h e
+    where
+      go : (q : program_option.Option program_element.Element) → IfSome q (λ b. n ≡ b.0 + 1) → is_some q ≡ true → ⊥
+      go (Some b) g _ = omega (arith, g, z)
+      go None _ s = false≢true s
+
+  pub mate-none : IfNone r (n ≡ 0) → is_some r ≡ false → n ≡ 0
+  mate-none h e = go r h e
+    where
+      go : (q : program_option.Option program_element.Element) → IfNone q (n ≡ 0) → is_some q ≡ false → n ≡ 0
+      go (Some b) _ s = absurd (false≢true (sym s))
+      go None g _ = g

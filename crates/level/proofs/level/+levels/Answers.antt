@@ -3,6 +3,7 @@ use Prim.Native.Nat.{◌-◌, ◌*◌}
 use native.Mathlib.Omega.{arith}
 use borrow.Author.Rules.{rules}
 use Rattle.imports.proofs.Laws.Imports.{not-done}
+use Rattle.std.proofs.lemmas.Option.{MatchOption-at_some, MatchOption-at_none}
 use borrow.Rule.Slice.PartMut.{put_mid, take_put, same_len_mid}
 use lib.ListN.{length}
 use Rattle.tables.specs.ModelTable.{model_of}
@@ -20,7 +21,7 @@ merge_apart-merge_element-requires t c =
     (omega arith, (c.requires.good_fixed, (c.requires.state_over, (c.requires.f_lt_file_limit, (c.requires.version_value, (c.least_version-v.ensures ∙ level-version-is c.args.schema.now c.args.f.0 c.args.version c.requires.version_value c.args.deck.now c.args.elements.now (set_is c.args.files), (c.requires.a_in_bounds, (c.requires.b_in_bounds, room))))))))
 
 pub merge_element-returns-then-depth-eq0-clause-log_after : goal.merge_element-returns-then-depth-eq0-clause-log_after
-merge_element-returns-then-depth-eq0-clause-log_after t c = level-none _ _ _ _ _ _ _ c.if-depth-eq0.true
+merge_element-returns-then-depth-eq0-clause-log_after t c = rw c.into.ensures (level-none _ _ _ _ _ _ _ c.if-depth-eq0.true)
 
 pub merge_element-plan_level-requires-clause-v_lt_version_limit : goal.merge_element-plan_level-requires-clause-v_lt_version_limit
 merge_element-plan_level-requires-clause-v_lt_version_limit t c = level-version-low _ _ _ _ _ _ c.requires.v_value c.requires.good_fixed.schema_tested
@@ -28,10 +29,10 @@ merge_element-plan_level-requires-clause-v_lt_version_limit t c = level-version-
 pub merge_element-returns-in-Err-UsedTwice-clause-log_after : goal.merge_element-returns-in-Err-UsedTwice-clause-log_after
 merge_element-returns-in-Err-UsedTwice-clause-log_after t c =
     let twice : c.in-Err-UsedTwice.field-0 ≡ UsedTwice c.in-Err-UsedTwice.c = search rules in
-    rw twice (level-twice _ _ _ _ _ _ _ c.if-depth-eq0.false _ c.requires.v_value c.plan_level.result c.plan_level.new.work c.plan_level.ensures.work_after c.in-Err-UsedTwice.c (search rules))
+    rw (c.into-in-Err-UsedTwice.ensures, twice) (level-twice _ _ _ _ _ _ _ c.if-depth-eq0.false _ c.requires.v_value c.plan_level.result c.plan_level.new.work c.plan_level.ensures.work_after c.in-Err-UsedTwice.c (search rules))
 
 pub merge_element-returns-in-Err-Unmergeable-clause-log_after : goal.merge_element-returns-in-Err-Unmergeable-clause-log_after
-merge_element-returns-in-Err-Unmergeable-clause-log_after t c = level-stuck _ _ _ _ _ _ _ c.if-depth-eq0.false _ c.requires.v_value c.plan_level.result c.plan_level.new.work c.plan_level.ensures.work_after (search rules)
+merge_element-returns-in-Err-Unmergeable-clause-log_after t c = rw c.into-in-Err-Unmergeable.ensures (level-stuck _ _ _ _ _ _ _ c.if-depth-eq0.false _ c.requires.v_value c.plan_level.result c.plan_level.new.work c.plan_level.ensures.work_after (search rules))
 
 pub merge_element-returns-in_err-apply_plan-clause-log_after : goal.merge_element-returns-in_err-apply_plan-clause-log_after
 merge_element-returns-in_err-apply_plan-clause-log_after t c =
@@ -97,27 +98,27 @@ merge_pair-settle-requires-2-clause-v_lt_version_limit t c =
 pub merge_pair-returns : goal.merge_pair-returns
 merge_pair-returns t c = record { log_after = c.settle-2.ensures.log_after ∙ pair-settled _ _ _ _ _ _ _ _ (set_is c.files_of_pair-own.result) c.log_length-mark.result c.files_of_pair-own.ensures c.log_length-mark.ensures (state_in c.merge_apart-below.new.model c.merge_apart-below.new.log) c.merge_apart-below.result c.merge_apart-below.ensures.log_after; keeps_state = λ n texts q. c.settle-2.ensures.keeps_state n texts (c.merge_apart-below.ensures.keeps_state n texts q) }
 
-pub merge_sub_elements-loop-i-preserved-then-mate-eq0 : goal.merge_sub_elements-loop-i-preserved-then-mate-eq0
-merge_sub_elements-loop-i-preserved-then-mate-eq0 t c =
-    pairs-skip c.loop-i.invariant c.loop-i-test.true c.if-mate-eq0.true
+pub merge_sub_elements-loop-i-preserved-in_default : goal.merge_sub_elements-loop-i-preserved-in_default
+merge_sub_elements-loop-i-preserved-in_default t c =
+    pairs-skip c.loop-i.invariant c.loop-i-test.true (MatchOption-at_none _ _ c.in_default.is c.mate.ensures.alone)
 
 pub merge_sub_elements-merge_pair-requires : goal.merge_sub_elements-merge_pair-requires
 merge_sub_elements-merge_pair-requires t c =
     let k = c.loop-i.invariant in
     let h = c.loop-i-test.true in
-    (omega arith, (c.requires.good_fixed, (k.fits, (c.requires.f_lt_file_limit, (c.requires.version_value, (c.requires.v_value, (c.requires.p_in_bounds, (first-in k h c.requires.rows_in, mate-in k h c.requires.rows_in c.if-mate-eq0.false))))))))
+    (omega arith, (c.requires.good_fixed, (k.fits, (c.requires.f_lt_file_limit, (c.requires.version_value, (c.requires.v_value, (c.requires.p_in_bounds, (first-in k h c.requires.rows_in, mate-in k h c.requires.rows_in (MatchOption-at_some _ _ _ c.in-Some.is c.mate.ensures.paired)))))))))
 
 pub merge_sub_elements-loop-i-preserved : goal.merge_sub_elements-loop-i-preserved
 merge_sub_elements-loop-i-preserved t c =
     let rows = 2 * c.args.na in
     let rest = length c.loop-i.work - rows in
-    pairs-more c.loop-i.invariant c.loop-i-test.true c.if-mate-eq0.false c.merge_pair.new.model c.merge_pair.new.log c.merge_pair.result c.merge_pair.ensures.log_after (put_mid rows rest c.loop-i.work c.merge_pair.new.work) (take_put rows rest c.loop-i.work c.merge_pair.new.work (omega (arith, c.loop-i.invariant.size, c.requires.rows_in.room))) (same_len_mid rows rest c.loop-i.work c.merge_pair.new.work c.merge_pair.auto.work) c.merge_pair.auto.model c.merge_pair.auto.log c.in_ok-merge_pair.was c.merge_pair.ensures.keeps_state
+    pairs-more c.loop-i.invariant c.loop-i-test.true _ (MatchOption-at_some _ _ _ c.in-Some.is c.mate.ensures.paired) c.merge_pair.new.model c.merge_pair.new.log c.merge_pair.result c.merge_pair.ensures.log_after (put_mid rows rest c.loop-i.work c.merge_pair.new.work) (take_put rows rest c.loop-i.work c.merge_pair.new.work (omega (arith, c.loop-i.invariant.size, c.requires.rows_in.room))) (same_len_mid rows rest c.loop-i.work c.merge_pair.new.work c.merge_pair.auto.work) c.merge_pair.auto.model c.merge_pair.auto.log c.in_ok-merge_pair.was c.merge_pair.ensures.keeps_state
 
 pub merge_sub_elements-returns-in_err-merge_pair : goal.merge_sub_elements-returns-in_err-merge_pair
 merge_sub_elements-returns-in_err-merge_pair t c =
     let k = c.loop-i.invariant in
     let same : c.from_residual.result ≡ c.merge_pair.result = search rules in record {
-      log_after = rw same (pairs-stop k c.loop-i-test.true c.if-mate-eq0.false c.merge_pair.new.model c.merge_pair.new.log c.merge_pair.result c.merge_pair.ensures.log_after (not-done c.in_err-merge_pair.was));
+      log_after = rw same (pairs-stop k c.loop-i-test.true _ (MatchOption-at_some _ _ _ c.in-Some.is c.mate.ensures.paired) c.merge_pair.new.model c.merge_pair.new.log c.merge_pair.result c.merge_pair.ensures.log_after (not-done c.in_err-merge_pair.was));
       keeps_state = λ n texts q. c.merge_pair.ensures.keeps_state n texts (k.keeps n texts q);
     }
 
