@@ -25,7 +25,8 @@ impl From<ReadError> for io::Error {
     }
 }
 
-// A file read to its end, or as far as the buffer has room: how many of its bytes stand at the buffer's start.
+// A file read to its end, or as far as the buffer has room: how many of its bytes stand at the buffer's start. A count, not the bytes, since a read
+// that fails tells how many stand there too.
 pub fn read_all(file: &mut impl Read, buf: &mut [u8]) -> Result<usize, ReadError>
     ensures read { IfOk result (λ n. (n ≤ length buf.new) × (n ≡ length (take n buf.new))) }
     ensures failed { IfErr result (λ e. (e.count ≤ length buf.new) × (e.count ≡ length (take e.count buf.new))) }

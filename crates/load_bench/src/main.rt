@@ -2,8 +2,6 @@
 // arguments says. Time is taken from outside.
 #![tactic(auto)]
 
-ghost use Rattle.std.specs.Prelude.{◌≤◌};
-
 use deck::fields::number;
 use inputs::{argument, read_all};
 use load::load::load;
@@ -17,19 +15,6 @@ use tables::log::LOG_SIZE;
 use tables::model::MODEL_SIZE;
 use tables::schema::SCHEMA_SIZE;
 
-// 1 where the deck is taken.
-fn load_once(
-    deck: &[u8],
-    schema: &mut [u64],
-    elements: &mut [u64],
-    model: &mut [u64],
-    log: &mut [u64],
-) -> u64
-    ensures { result ≤ 1 }
-{
-    load(deck, schema, elements, model, log).is_ok() as u64
-}
-
 // How many of so many loads took the deck.
 fn load_often(
     deck: &[u8],
@@ -41,7 +26,9 @@ fn load_often(
 ) -> u64 {
     let mut loaded: u64 = 0;
     for _ in 0..times {
-        loaded += load_once(deck, schema, elements, model, log);
+        if load(deck, schema, elements, model, log).is_ok() {
+            loaded += 1;
+        }
     }
     loaded
 }
@@ -70,14 +57,14 @@ fn load_open(file: &mut impl Read, times: u64) -> io::Result<u64> {
 fn load_file(rt: &(impl Files + Print + Eprint), name: &str, times: u64) -> io::Result<()> {
     match File::open(rt, name) {
         Ok(mut file) => {
-            rt.print(name)?;
-            rt.print(" loaded ")?;
+            print!(rt; "{name} loaded ")?;
             rt.println(load_open(&mut file, times)?)
         }
         Err(error) => eprintln!(rt; "{name}: {error}"),
     }
 }
 
+// As merge_bench has it, apart: what is handed on differs.
 // What the word says, a deck or a number; how often the decks behind it are loaded.
 fn load_word(rt: &(impl Files + Print + Eprint), word: &[u8], times: u64) -> io::Result<u64> {
     let v = number(word, 10, 1000000);
@@ -96,6 +83,7 @@ fn load_word(rt: &(impl Files + Print + Eprint), word: &[u8], times: u64) -> io:
 fn main(rt: HostRuntime) -> io::Result<()> {
     let mut times: u64 = 1;
     let mut buf = [0u8; 4096];
+    // A range, since there is no loop without end.
     for i in 1..usize::MAX {
         match argument(&rt, i, &mut buf)? {
             Some(word) => times = load_word(&rt, word, times)?,

@@ -29,15 +29,6 @@ struct Work {
     times: u64,
 }
 
-fn word(rt: &impl Print, s: &[u8]) -> io::Result<()> {
-    rt.write_all(s)
-}
-
-fn field(rt: &impl Print, n: u64) -> io::Result<()> {
-    word(rt, b",")?;
-    rt.print(n)
-}
-
 // The merge on model and log as they were loaded.
 fn merge_anew(
     deck: &[u8],
@@ -83,17 +74,9 @@ fn merge_often(
 
 fn answer(rt: &impl Print, a: Result<Counts, CallError>) -> io::Result<()> {
     match a {
-        Ok(c) => {
-            word(rt, b"merged")?;
-            field(rt, c.imports as u64)?;
-            field(rt, c.restrictions as u64)?;
-            field(rt, c.extensions as u64)
-        }
-        Err(CallError::BadTables) => word(rt, b"refused,0"),
-        Err(CallError::Refused(r)) => {
-            word(rt, b"refused")?;
-            field(rt, refusal_fields(r).number)
-        }
+        Ok(c) => print!(rt; "merged,{},{},{}", c.imports, c.restrictions, c.extensions),
+        Err(CallError::BadTables) => print!(rt; "refused,0"),
+        Err(CallError::Refused(r)) => print!(rt; "refused,{}", refusal_fields(r).number),
     }
 }
 
@@ -118,11 +101,10 @@ fn merge_deck(rt: &impl Print, deck: &[u8], file: u64, times: u64) -> io::Result
             deck, &schema, &elements, &old_model, &old_log, &mut model, &mut log, file,
         ),
     )?;
-    word(rt, b" accepted ")?;
-    rt.print(merge_often(
+    rt.print(" accepted ")?;
+    rt.println(merge_often(
         deck, &schema, &elements, &old_model, &old_log, &mut model, &mut log, file, times,
-    ))?;
-    word(rt, b"\n")
+    ))
 }
 
 fn merge_open(rt: &impl Print, file: &mut impl Read, number: u64, times: u64) -> io::Result<()> {
@@ -139,14 +121,14 @@ fn merge_file(
 ) -> io::Result<()> {
     match File::open(rt, name) {
         Ok(mut file) => {
-            rt.print(name)?;
-            word(rt, b" ")?;
+            print!(rt; "{name} ")?;
             merge_open(rt, &mut file, number, times)
         }
         Err(error) => eprintln!(rt; "{name}: {error}"),
     }
 }
 
+// As load_bench has it, apart: what is handed on differs.
 // What the word says, a deck or a number; what is asked of the decks behind it.
 fn merge_word(rt: &(impl Files + Print + Eprint), word: &[u8], w: Work) -> io::Result<Work> {
     let v = number(word, 10, 1000000);
@@ -168,6 +150,7 @@ fn merge_word(rt: &(impl Files + Print + Eprint), word: &[u8], w: Work) -> io::R
 fn main(rt: HostRuntime) -> io::Result<()> {
     let mut w = Work { file: 1, times: 1 };
     let mut buf = [0u8; 4096];
+    // A range, since there is no loop without end.
     for i in 1..usize::MAX {
         match argument(&rt, i, &mut buf)? {
             Some(word) => w = merge_word(&rt, word, w)?,
