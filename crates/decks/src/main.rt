@@ -5,7 +5,7 @@
 
 use std::io;
 use std::rt::Files;
-use streams::answers::{held, read_file, word};
+use streams::answers::{differing, held, read_file, word};
 use streams::buffer::{deck_buffer, megabyte};
 use streams::parts::part;
 
@@ -49,17 +49,6 @@ fn run_case(rt: &(impl Files + Print), line: &[u8]) -> io::Result<bool> {
     }
 }
 
-// How many cases differ.
-fn run_list(rt: &(impl Files + Print), list: &[u8]) -> io::Result<u64> {
-    let mut differ: u64 = 0;
-    for line in list.split_inclusive(|byte| *byte == b'\n') {
-        if !run_case(rt, line.strip_suffix(b"\n").unwrap_or(line))? {
-            differ = differ.wrapping_add(1);
-        }
-    }
-    Ok(differ)
-}
-
 fn main(rt: HostRuntime) -> io::Result<()> {
     let mut list = megabyte();
     // Of a list that cannot be read to its end, the cases up to there.
@@ -70,6 +59,6 @@ fn main(rt: HostRuntime) -> io::Result<()> {
     if n == 0 {
         return word(&rt, b"list: no case\n");
     }
-    rt.print(run_list(&rt, &list[..n])?)?;
+    rt.print(differing(&list[..n], |line| run_case(&rt, line))?)?;
     word(&rt, b" cases differ\n")
 }

@@ -23,6 +23,7 @@ fn append(buf: &mut [u8], at: usize, text: &[u8]) -> usize
     at + n
 }
 
+// As `read_all` of inputs, it answers a count and not the bytes: where the read fails, some stand there too.
 // How many bytes of the file of this name and ending stand at the buffer's start, as far as it has room.
 pub fn read_file(
     rt: &impl Files,
@@ -107,4 +108,20 @@ pub fn held(rt: &(impl Files + Print), name: &[u8], printed: &[u8]) -> io::Resul
         return Ok(false);
     }
     compare(rt, name, printed, &expected[..n])
+}
+
+// For how many of the list's lines the test does not hold.
+pub fn differing<Holds: FnMut(&[u8]) -> io::Result<bool>>(
+    list: &[u8],
+    mut holds: Holds,
+) -> io::Result<u64>
+    requires { Holds.IsAlwaysCallable holds }
+{
+    let mut n: u64 = 0;
+    for line in list.split_inclusive(|byte| *byte == b'\n') {
+        if !holds(line.strip_suffix(b"\n").unwrap_or(line))? {
+            n = n.wrapping_add(1);
+        }
+    }
+    Ok(n)
 }
