@@ -1,4 +1,9 @@
 // What is known of the lines so far, beside the tables.
+ghost use Rattle.std.specs.Prelude.{◌≡◌, ◌≤◌, ◌<◌, IfOk, IfErr};
+ghost use Rattle.load.specs.declared.refusals.Refusal.TheVariants.{Form};
+ghost use Rattle.load.specs.Lines.{kind_number};
+
+use crate::refusals::Refusal;
 use tables::limits::DEPTH_LIMIT;
 
 // The largest number of open elements: one of each depth.
@@ -16,6 +21,7 @@ pub enum Kind {
 }
 
 // seen: there is an M line; due: the latest M or B has no root yet; depth: how many elements are open; above: the open element of each depth.
+// Two flags and no enum of states, as the rules have them: each may be set without the other. A count beside an array, since there is no heap.
 #[derive(Clone, Copy)]
 pub struct Progress {
     pub latest: Kind,
@@ -23,4 +29,15 @@ pub struct Progress {
     pub due: bool,
     pub depth: usize,
     pub above: [usize; OPEN_LIMIT],
+}
+
+// After a line of this kind, which comes before none of another kind that is there.
+pub fn in_order(p: Progress, kind: Kind) -> Result<Progress, Refusal>
+    ensures taken { IfOk result (λ q. (kind_number p.latest ≤ kind_number kind) × (q ≡ record { latest = kind; seen = p.seen; due = p.due; depth = p.depth; above = p.above })) }
+    ensures refused { IfErr result (λ r. (kind_number kind < kind_number p.latest) × (r ≡ Form)) }
+{
+    if kind < p.latest {
+        return Err(Refusal::Form);
+    }
+    Ok(Progress { latest: kind, ..p })
 }

@@ -20,7 +20,7 @@ impl Refusal {
     }
 }
 
-// line: counted from 1; 0 where no line was read.
+// line: counted from 1; 0 where no line was read. A number and no Option: 0 is what the rules, C's answer and the printed line have there.
 #[derive(Clone, Copy, PartialEq, Eq)]
 pub struct LoadError {
     pub refusal: Refusal,

@@ -9,7 +9,7 @@ ghost use Rattle.deck.specs.Load.{load_t, load_g, load_s, load_f};
 ghost use Rattle.schema_calls.specs.Calls.{PathsClosed};
 ghost use Rattle.load.specs.Lines.{loading_of, taken, GoodLoading, StepResult};
 
-use crate::progress::{Kind, Progress};
+use crate::progress::{Kind, Progress, in_order};
 use crate::refusals::Refusal;
 use deck::lines::{FileCells, GroupCells, RowCells, TypeCells};
 use schema_calls::calls::has_group;
@@ -21,13 +21,6 @@ use tables::schema::{
     type_count,
 };
 
-// After a line of this kind.
-fn after(p: Progress, kind: Kind) -> Progress
-    ensures { result ≡ record { latest = kind; seen = p.seen; due = p.due; depth = p.depth; above = p.above } }
-{
-    Progress { latest: kind, ..p }
-}
-
 // `T,type,mode,named,split`: types run from 0.
 pub fn load_t(schema: &mut [u64], p: Progress, c: TypeCells) -> Result<Progress, Refusal>
     requires good_schema { GoodSchema schema.old }
@@ -35,9 +28,7 @@ pub fn load_t(schema: &mut [u64], p: Progress, c: TypeCells) -> Result<Progress,
     ensures { (elements model : List ℕ) → GoodLoading p schema.old elements model → StepResult p result schema.new elements model (load_t (loading_of p schema.old elements model) c.ty.0 (type_is c)) }
 {
     let t = c.ty;
-    if Kind::T < p.latest {
-        return Err(Refusal::Form);
-    }
+    let q = in_order(p, Kind::T)?;
     if t.0 != type_count(schema) {
         return Err(Refusal::Form);
     }
@@ -45,7 +36,7 @@ pub fn load_t(schema: &mut [u64], p: Progress, c: TypeCells) -> Result<Progress,
         return Err(Refusal::Limit);
     }
     add_type(schema, c.mode, c.named, c.split);
-    Ok(after(p, Kind::T))
+    Ok(q)
 }
 
 // `G,type,path,mode`
@@ -55,9 +46,7 @@ pub fn load_g(schema: &mut [u64], p: Progress, c: GroupCells) -> Result<Progress
     ensures { (elements model : List ℕ) → GoodLoading p schema.old elements model → StepResult p result schema.new elements model (load_g (loading_of p schema.old elements model) (group_is c)) }
 {
     let n = group_count(schema);
-    if Kind::G < p.latest {
-        return Err(Refusal::Form);
-    }
+    let q = in_order(p, Kind::G)?;
     if GROUP_LIMIT <= n {
         return Err(Refusal::Limit);
     }
@@ -66,7 +55,7 @@ pub fn load_g(schema: &mut [u64], p: Progress, c: GroupCells) -> Result<Progress
         return Err(Refusal::SchemaRule);
     }
     add_group(schema, c.ty, c.path, c.mode);
-    Ok(after(p, Kind::G))
+    Ok(q)
 }
 
 // `S,type,path,name,child,mult,mask`
@@ -77,9 +66,7 @@ pub fn load_s(schema: &mut [u64], p: Progress, c: RowCells) -> Result<Progress, 
     ensures { (elements model : List ℕ) → GoodLoading p schema.old elements model → StepResult p result schema.new elements model (load_s (loading_of p schema.old elements model) (row_is c)) }
 {
     let n = row_count(schema);
-    if Kind::S < p.latest {
-        return Err(Refusal::Form);
-    }
+    let q = in_order(p, Kind::S)?;
     if ROW_LIMIT <= n {
         return Err(Refusal::Limit);
     }
@@ -88,7 +75,7 @@ pub fn load_s(schema: &mut [u64], p: Progress, c: RowCells) -> Result<Progress, 
         return Err(Refusal::SchemaRule);
     }
     add_row(schema, c.ty, c.path, c.name, c.child, c.mult, c.mask);
-    Ok(after(p, Kind::S))
+    Ok(q)
 }
 
 // Every declared file is below this one.
@@ -96,8 +83,7 @@ fn files_below(schema: &[u64], f: FileNumber) -> bool
     requires { GoodSchema schema.now }
     ensures { result ≡ all_of (λ (above : File). ltb above.file f.0) (schema_of schema.now).files }
 {
-    let n = file_count(schema);
-    for i in 0..n {
+    for i in 0..file_count(schema) {
         let g = file_number(schema, i);
         if f.0 <= g.0 {
             return false;
@@ -114,12 +100,10 @@ pub fn load_f(schema: &mut [u64], p: Progress, c: FileCells) -> Result<Progress,
     ensures { (elements model : List ℕ) → GoodLoading p schema.old elements model → StepResult p result schema.new elements model (load_f (loading_of p schema.old elements model) (file_is c)) }
 {
     let f = c.file;
-    if Kind::F < p.latest {
-        return Err(Refusal::Form);
-    }
+    let q = in_order(p, Kind::F)?;
     if !files_below(schema, f) {
         return Err(Refusal::Form);
     }
     add_file(schema, f, c.version);
-    Ok(after(p, Kind::F))
+    Ok(q)
 }

@@ -14,7 +14,7 @@ ghost use Rattle.deck.specs.Load.{Loading, load_m, may_wait, load_b, owner, root
 ghost use Rattle.load.specs.Lines.{loading_of, open_limit, GoodLoading, StepResult};
 ghost use Rattle.load.specs.declared.progress.Progress.{Progress};
 
-use crate::progress::{Kind, Progress};
+use crate::progress::{Kind, Progress, in_order};
 use crate::refusals::Refusal;
 use deck::lines::{ElementCells, TextCells};
 use schema_calls::calls::row_of_name;
@@ -46,13 +46,11 @@ fn open_tree(p: Progress, kind: Kind, seen: bool) -> Progress
 pub fn load_m(p: Progress) -> Result<Progress, Refusal>
     ensures { (schema elements model : List ℕ) → GoodLoading p schema elements model → StepResult p result schema elements model (load_m (loading_of p schema elements model)) }
 {
-    if Kind::M < p.latest {
-        return Err(Refusal::Form);
-    }
+    let q = in_order(p, Kind::M)?;
     if p.latest == Kind::M {
         return Err(Refusal::TreeRule);
     }
-    Ok(open_tree(p, Kind::M, true))
+    Ok(open_tree(q, Kind::M, true))
 }
 
 // The root's set; none where there is no root.

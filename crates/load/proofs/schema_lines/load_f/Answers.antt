@@ -1,27 +1,24 @@
-use mathlib.Core.Path.{sym, ◌∙◌}
-use Prim.Native.Nat.{◌<◌, ◌≤◌}
+use Rattle.std.specs.Prelude.{Err}
+use mathlib.Core.Path.{◌≡◌, sym, ◌∙◌}
 use borrow.Author.Rules.{rules}
-use Rattle.deck.specs.Load.{kind_f}
-use Rattle.load.specs.Lines.{kind_number}
 use Rattle.load.specs.declared.progress.Kind.TheVariants.{F}
 use Rattle.tables.specs.Limits.{file_limit}
 use Rattle.tables.specs.Records.{File, add_file}
 use Rattle.tables.specs.SchemaTable.{schema_of}
 use Rattle.deck.specs.Answers.{file_is}
 use Rattle.load.proofs.Laws.SchemaLines.{step-schema, f-late, f-order, f-taken, below_new, fits-file}
-use Rattle.load.proofs.Laws.Steps.{line_refused}
+use Rattle.load.proofs.Laws.Steps.{line_refused, late_refused}
 use Rattle.load.proofs.Laws.Taken.{taken-room}
 use Rattle.load.proofs.schema_lines.load_f.Goals as goal
 
-pub returns-then-lt : goal.returns-then-lt
-returns-then-lt c elements model g =
-    let late : kind_f < kind_number c.args.p.latest = search rules in
-    line_refused g
-    (f-late _ _ late)
+pub returns-in_err-q : goal.returns-in_err-q
+returns-in_err-q c elements model g =
+    let same : c.from_residual.result ≡ Err c.in_err-q.field-0.0 = search rules in
+    rw same (late_refused g c.in_err-q.ensures.refused.1 (f-late _ _ c.in_err-q.ensures.refused.0))
 
 pub returns-then-not-files_below : goal.returns-then-not-files_below
 returns-then-not-files_below c elements model g =
-    let early : kind_number c.args.p.latest ≤ kind_f = search rules in
+    let early = c.in_ok-q.ensures.taken.0 in
     line_refused g
     (f-order _ _ early (sym c.files_below.ensures ∙ c.if-not-files_below.true))
 
@@ -38,12 +35,12 @@ add_file-requires c =
 
 pub returns : goal.returns
 returns c elements model g =
-    let early : kind_number c.args.p.latest ≤ kind_f = search rules in
+    let early = c.in_ok-q.ensures.taken.0 in
     let xs = c.args.schema.now in
     let below = sym c.files_below.ensures ∙ c.if-not-files_below.false in
     let new = below_new (λ (d : File). d.file) _ (schema_of xs).files below in
     step-schema F (add_file (schema_of xs) (file_is c.args.c))
-    c.after.ensures
+    c.in_ok-q.ensures.taken.1
     g
     c.add_file.ensures
     (fits-file _ g.fits _ c.requires.file_lt_file_limit.0 new)

@@ -1,25 +1,22 @@
-use mathlib.Core.Path.{◌∙◌}
+use Rattle.std.specs.Prelude.{Err}
+use mathlib.Core.Path.{◌≡◌, ◌∙◌}
 use borrow.Author.Rules.{rules}
-use Prim.Native.Nat.{◌<◌, ◌≤◌}
-use Rattle.deck.specs.Load.{kind_g}
-use Rattle.load.specs.Lines.{kind_number}
 use Rattle.load.specs.declared.progress.Kind.TheVariants.{G}
 use Rattle.tables.specs.Records.{add_group}
 use Rattle.tables.specs.SchemaTable.{schema_of}
 use Rattle.deck.specs.Answers.{group_is}
 use Rattle.load.proofs.Laws.SchemaLines.{step-schema, g-row, row-late, row-limit, row-broken, row-taken, group-rule-is, fits-group}
-use Rattle.load.proofs.Laws.Steps.{line_refused}
+use Rattle.load.proofs.Laws.Steps.{line_refused, late_refused}
 use Rattle.load.proofs.schema_lines.load_g.Goals as goal
 
-pub returns-then-lt : goal.returns-then-lt
-returns-then-lt c elements model g =
-    let late : kind_g < kind_number c.args.p.latest = search rules in
-    line_refused g
-    (g-row _ _ ∙ row-late _ _ _ _ _ _ late)
+pub returns-in_err-q : goal.returns-in_err-q
+returns-in_err-q c elements model g =
+    let same : c.from_residual.result ≡ Err c.in_err-q.field-0.0 = search rules in
+    rw same (late_refused g c.in_err-q.ensures.refused.1 (g-row _ _ ∙ row-late _ _ _ _ _ _ c.in_err-q.ensures.refused.0))
 
 pub returns-then-n-ge-GROUP_LIMIT : goal.returns-then-n-ge-GROUP_LIMIT
 returns-then-n-ge-GROUP_LIMIT c elements model g =
-    let early : kind_number c.args.p.latest ≤ kind_g = search rules in
+    let early = c.in_ok-q.ensures.taken.0 in
     line_refused g
     (g-row _ _ ∙ row-limit _ _ _ _ _ _ early (rw c.group_count-n.ensures at c.if-n-ge-GROUP_LIMIT.true))
 
@@ -28,7 +25,7 @@ group_rule-requires c = record { good_schema = search rules; above_in_bounds = s
 
 pub returns-then-not-group_rule : goal.returns-then-not-group_rule
 returns-then-not-group_rule c elements model g =
-    let early : kind_number c.args.p.latest ≤ kind_g = search rules in
+    let early = c.in_ok-q.ensures.taken.0 in
     let rule =
     group-rule-is (schema_of c.args.schema.now) _ (group_is c.args.c) _ _ c.group_count-n.ensures (c.group_rule.ensures _) (c.if-not-group_rule.true)
     in
@@ -37,13 +34,13 @@ returns-then-not-group_rule c elements model g =
 
 pub returns : goal.returns
 returns c elements model g =
-    let early : kind_number c.args.p.latest ≤ kind_g = search rules in
+    let early = c.in_ok-q.ensures.taken.0 in
     let xs = c.args.schema.now in
     let rule =
     group-rule-is (schema_of c.args.schema.now) _ (group_is c.args.c) _ _ c.group_count-n.ensures (c.group_rule.ensures _) (c.if-not-group_rule.false)
     in
     step-schema G (add_group (schema_of xs) (group_is c.args.c))
-    c.after.ensures
+    c.in_ok-q.ensures.taken.1
     g
     c.add_group.ensures
     (fits-group _ g.fits _ early rule)

@@ -1,9 +1,7 @@
-use mathlib.Core.Path.{sym, subst, ◌∙◌}
+use Rattle.std.specs.Prelude.{Err}
+use mathlib.Core.Path.{◌≡◌, sym, subst, ◌∙◌}
 use native.Mathlib.Omega.{arith}
-use Prim.Native.Nat.{◌<◌, ◌≤◌}
 use borrow.Author.Rules.{rules}
-use Rattle.deck.specs.Load.{kind_s}
-use Rattle.load.specs.Lines.{kind_number}
 use Rattle.load.specs.declared.progress.Kind.TheVariants.{S}
 use Rattle.tables.specs.Records.{add_sub_element}
 use Rattle.tables.specs.SchemaTable.{schema_of}
@@ -11,18 +9,17 @@ use Rattle.deck.specs.Answers.{row_is}
 use Rattle.schema_calls.specs.Calls.{PathsClosed}
 use Rattle.schema_calls.proofs.Laws.Schemas.{rows_all}
 use Rattle.load.proofs.Laws.SchemaLines.{step-schema, s-row, row-late, row-limit, row-broken, row-taken, row-rule-is, fits-row}
-use Rattle.load.proofs.Laws.Steps.{line_refused}
+use Rattle.load.proofs.Laws.Steps.{line_refused, late_refused}
 use Rattle.load.proofs.schema_lines.load_s.Goals as goal
 
-pub returns-then-lt : goal.returns-then-lt
-returns-then-lt c elements model g =
-    let late : kind_s < kind_number c.args.p.latest = search rules in
-    line_refused g
-    (s-row _ _ ∙ row-late _ _ _ _ _ _ late)
+pub returns-in_err-q : goal.returns-in_err-q
+returns-in_err-q c elements model g =
+    let same : c.from_residual.result ≡ Err c.in_err-q.field-0.0 = search rules in
+    rw same (late_refused g c.in_err-q.ensures.refused.1 (s-row _ _ ∙ row-late _ _ _ _ _ _ c.in_err-q.ensures.refused.0))
 
 pub returns-then-n-ge-ROW_LIMIT : goal.returns-then-n-ge-ROW_LIMIT
 returns-then-n-ge-ROW_LIMIT c elements model g =
-    let early : kind_number c.args.p.latest ≤ kind_s = search rules in
+    let early = c.in_ok-q.ensures.taken.0 in
     line_refused g
     (s-row _ _ ∙ row-limit _ _ _ _ _ _ early (rw c.row_count-n.ensures at c.if-n-ge-ROW_LIMIT.true))
 
@@ -39,7 +36,7 @@ sub_element_rule-requires c =
 
 pub returns-then-not-sub_element_rule : goal.returns-then-not-sub_element_rule
 returns-then-not-sub_element_rule c elements model g =
-    let early : kind_number c.args.p.latest ≤ kind_s = search rules in
+    let early = c.in_ok-q.ensures.taken.0 in
     let rule =
     row-rule-is (schema_of c.args.schema.now) _ (row_is c.args.c) _ _ c.row_count-n.ensures c.sub_element_rule.ensures
     (c.if-not-sub_element_rule.true)
@@ -49,14 +46,14 @@ returns-then-not-sub_element_rule c elements model g =
 
 pub returns : goal.returns
 returns c elements model g =
-    let early : kind_number c.args.p.latest ≤ kind_s = search rules in
+    let early = c.in_ok-q.ensures.taken.0 in
     let xs = c.args.schema.now in
     let rule =
     row-rule-is (schema_of c.args.schema.now) _ (row_is c.args.c) _ _ c.row_count-n.ensures c.sub_element_rule.ensures
     (c.if-not-sub_element_rule.false)
     in
     step-schema S (add_sub_element (schema_of xs) (row_is c.args.c))
-    c.after.ensures
+    c.in_ok-q.ensures.taken.1
     g
     c.add_row.ensures
     (fits-row _ g.fits _ c.requires.path_fits rule)
