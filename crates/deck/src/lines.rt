@@ -9,7 +9,7 @@ use tables::file_set::FileSet;
 use tables::limits::{FILE_LIMIT, MASK_LIMIT, NAME_LIMIT, PATH_LIMIT, VERSION_LIMIT};
 use tables::numbers::{FileNumber, Name, TypeNumber};
 use tables::path::Path;
-use tables::schema::Mult;
+use tables::schema::{CHARACTERS, MIXED, Mult};
 use tables::text::StoredText;
 
 // The largest number of a type or depth field.
@@ -193,7 +193,7 @@ fn line_t(deck: &[u8], f: Fields) -> Option<Line>
     ensures { LineReads result (line_t (fields_of deck.now f)) }
 {
     let ty = number_at(deck, f, 1, 10, NUMBER_LIMIT)?;
-    let mode = number_at(deck, f, 2, 10, 4)?;
+    let mode = number_at(deck, f, 2, 10, CHARACTERS)?;
     let named = number_at(deck, f, 3, 10, 1)?;
     let split = number_at(deck, f, 4, 16, ALL_VERSIONS)?;
     if f.count != 5 {
@@ -214,7 +214,7 @@ fn line_g(deck: &[u8], f: Fields) -> Option<Line>
 {
     let ty = number_at(deck, f, 1, 10, NUMBER_LIMIT)?;
     let path = path_at(deck, f, 2, GROUP_PATH_LIMIT)?;
-    let mode = number_at(deck, f, 3, 10, 3)?;
+    let mode = number_at(deck, f, 3, 10, MIXED)?;
     if f.count != 4 {
         return None;
     }
