@@ -1,13 +1,14 @@
 // The calls on lent tables.
-ghost use Rattle.std.specs.Prelude.{◌≡◌, ◌<◌, length};
+ghost use Rattle.std.specs.Prelude.{true, false, ◌≡◌, ◌<◌, length, OnOk, IfErr};
 ghost use Rattle.tables.specs.ElementsTable.{elements_of};
 ghost use Rattle.tables.specs.Limits.{file_limit};
 ghost use Rattle.tables.specs.LogTable.{GoodLog};
 ghost use Rattle.table_test.specs.Fits.{GoodFixed, StateOver};
-ghost use Rattle.state_test.specs.StateTest.{fixed_in, state_in};
+ghost use Rattle.state_test.specs.StateTest.{fixed_in, state_in, lent_tables_pass};
 ghost use Rattle.merge_rules.specs.Calls.{range_answer, merged_from, merge_tree};
 ghost use Rattle.merge_rules.specs.TableCalls.{answered, range_call, merge_call, rollback_call};
 ghost use Rattle.merge_log.specs.Answers.{outcome_is};
+ghost use Rattle.merge.specs.declared.calls.CallError.TheVariants.{BadTables};
 ghost use Rattle.merge.specs.Calls.{range_answer_is, merge_result, rollback_result, encoded_merge, concluded};
 ghost use Rattle.insert_range.specs.Range.{range_is};
 
@@ -71,6 +72,23 @@ fn range_answer(e: Element, n: Name, r: Result<Bounds, Unplaced>) -> Result<Boun
     }
 }
 
+// Refusal 0 where the lent tables do not pass.
+fn tested(
+    deck: &[u8],
+    schema: &[u64],
+    elements: &[u64],
+    model: &[u64],
+    log: &[u64],
+) -> Result<(), CallError>
+    ensures pass { OnOk result (lent_tables_pass deck.now schema.now elements.now model.now log.now ≡ true) }
+    ensures fail { IfErr result (λ e. (e ≡ BadTables) × (lent_tables_pass deck.now schema.now elements.now model.now log.now ≡ false)) }
+{
+    if !lent_tables_pass(deck, schema, elements, model, log) {
+        return Err(CallError::BadTables);
+    }
+    Ok(())
+}
+
 // Where an element of this name may stand in the list of this element, in this version: the first and last place.
 pub fn range(
     deck: &[u8],
@@ -84,19 +102,14 @@ pub fn range(
 ) -> Result<Bounds, CallError>
     ensures { range_answer_is result ≡ range_call deck.now schema.now elements.now model.now log.now element name version }
 {
-    if !lent_tables_pass(deck, schema, elements, model, log) {
-        return Err(CallError::BadTables);
-    }
-    if element_count(elements) as u64 <= element {
-        return Err(CallError::Refused(Refusal::NoSuchElement));
-    }
-    if VERSION_LIMIT <= version {
-        return Err(CallError::Refused(Refusal::NoSuchElement));
+    tested(deck, schema, elements, model, log)?;
+    if element_count(elements) as u64 <= element || VERSION_LIMIT <= version {
+        return Err(Refusal::NoSuchElement.into());
     }
     let e = Element(element as usize);
     let t = element_type(elements, e);
     if type_mode(schema, t) == CHARACTERS {
-        return Err(CallError::Refused(Refusal::CharactersParent(e)));
+        return Err(Refusal::CharactersParent(e).into());
     }
     let n = Name(name);
     let r = calc_element_insert_range(schema, elements, model, e, n, version);
@@ -165,9 +178,7 @@ pub fn merge(
     ensures { merge_result result model.new log.new ≡ merge_call deck.now schema.now elements.now model.old log.old file }
 {
     let f = FileNumber(file);
-    if !lent_tables_pass(deck, schema, elements, model, log) {
-        return Err(CallError::BadTables);
-    }
+    tested(deck, schema, elements, model, log)?;
     let b = waiting_tree(elements, model, f).ok_or(Refusal::NotWaiting)?;
     merge_waiting(deck, schema, elements, model, log, f, b)
 }
@@ -183,11 +194,9 @@ pub fn rollback(
 ) -> Result<usize, CallError>
     ensures { rollback_result result model.new log.new ≡ rollback_call deck.now schema.now elements.now model.old log.old mark }
 {
-    if !lent_tables_pass(deck, schema, elements, model, log) {
-        return Err(CallError::BadTables);
-    }
+    tested(deck, schema, elements, model, log)?;
     if !is_mark(log, mark) {
-        return Err(CallError::Refused(Refusal::NoMark));
+        return Err(Refusal::NoMark.into());
     }
     let n = log_length(log);
     let m = mark as usize;

@@ -5,17 +5,16 @@ use mathlib.Core.Bool.{Bool, true, false}
 use mathlib.Core.List.{List}
 use mathlib.Core.Option.{Option, some}
 use mathlib.Core.Path.{◌≡◌, sym, ◌∙◌}
-use Prim.Native.Nat.{ℕ, suc, ◌≤◌, ◌<◌}
+use Prim.Native.Nat.{ℕ, suc}
 use borrow.Author.Tests.{eqb-true}
-use lib.Dec.{eqb}
-use lib.ListN.{length, get_or, drop}
+use lib.ListN.{get_or}
 use Rattle.tables.specs.Cells.{Each}
 use Rattle.tables.specs.ElementsTable.{elements_of, no_tree}
 use Rattle.tables.specs.FileSets.{holds, waiting_tree}
 use Rattle.tables.specs.Limits.{depth_limit}
 use Rattle.tables.specs.Lists.{first_of}
 use Rattle.tables.specs.ModelTable.{model_of}
-use Rattle.tables.specs.Records.{FileNumber, FileSet, Tree, Fixed, State, root, set_of}
+use Rattle.tables.specs.Records.{FileSet, Tree, Fixed, State, root, set_of}
 use Rattle.tables.specs.declared.numbers.Element.{Element}
 use Rattle.tables.proofs.Laws.Cells.{each-get_d}
 use Rattle.schema_calls.specs.Calls.{Finds, tree_matches}

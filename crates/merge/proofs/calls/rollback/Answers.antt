@@ -1,3 +1,6 @@
+use Rattle.std.specs.Prelude.{Err}
+use Rattle.std.proofs.lemmas.Result.{IfOk-at_ok, IfErr-at_err}
+use Rattle.merge.specs.declared.calls.CallError.TheVariants.{BadTables}
 use mathlib.Core.Bool.{true}
 use mathlib.Core.Path.{◌≡◌}
 use Prim.Native.Nat.{◌≤◌}
@@ -11,22 +14,24 @@ use Rattle.merge_rules.specs.Log.{is_mark}
 use Rattle.merge.proofs.Laws.Calls.{lent-state, lent-once, rollback-bad, no-mark, mark-low, rolled-back}
 use Rattle.merge.proofs.calls.rollback.Goals as goal
 
-pub returns-then-not-lent_tables_pass : goal.returns-then-not-lent_tables_pass
-returns-then-not-lent_tables_pass c =
-    rollback-bad c.args.deck.now c.args.schema.now c.args.elements.now c.args.model.now c.args.log.now c.args.mark (failed c.lent_tables_pass.ensures c.if-not-lent_tables_pass.true)
+pub returns-in_err-tested : goal.returns-in_err-tested
+returns-in_err-tested c =
+    let bad = IfErr-at_err _ c.in_err-tested.was c.tested.ensures.fail in
+    let same : c.from_residual.result ≡ Err BadTables = grind arith in
+    rw same (rollback-bad c.args.deck.now c.args.schema.now c.args.elements.now c.args.model.now c.args.log.now c.args.mark bad.1)
 
 pub is_mark-requires : goal.is_mark-requires
-is_mark-requires c = let pass_0 : lent_tables_pass c.args.deck.now c.args.schema.now c.args.elements.now c.args.model.now c.args.log.now ≡ true = passed c.lent_tables_pass.ensures c.if-not-lent_tables_pass.false in let fits_0 : StateOver c.args.elements.now c.args.model.now c.args.log.now = lent-state c.args.deck.now c.args.schema.now c.args.elements.now c.args.model.now c.args.log.now pass_0 in fits_0.log_fits.good
+is_mark-requires c = let pass_0 : lent_tables_pass c.args.deck.now c.args.schema.now c.args.elements.now c.args.model.now c.args.log.now ≡ true = IfOk-at_ok _ c.in_ok-tested.was c.tested.ensures.pass in let fits_0 : StateOver c.args.elements.now c.args.model.now c.args.log.now = lent-state c.args.deck.now c.args.schema.now c.args.elements.now c.args.model.now c.args.log.now pass_0 in fits_0.log_fits.good
 
 pub returns-then-not-is_mark : goal.returns-then-not-is_mark
-returns-then-not-is_mark c = let pass_0 : lent_tables_pass c.args.deck.now c.args.schema.now c.args.elements.now c.args.model.now c.args.log.now ≡ true = passed c.lent_tables_pass.ensures c.if-not-lent_tables_pass.false in
-    no-mark c.args.deck.now c.args.schema.now c.args.elements.now c.args.model.now c.args.log.now c.args.mark pass_0 (failed c.is_mark.ensures c.if-not-is_mark.true)
+returns-then-not-is_mark c = let pass_0 : lent_tables_pass c.args.deck.now c.args.schema.now c.args.elements.now c.args.model.now c.args.log.now ≡ true = IfOk-at_ok _ c.in_ok-tested.was c.tested.ensures.pass in
+    rw c.into.ensures (no-mark c.args.deck.now c.args.schema.now c.args.elements.now c.args.model.now c.args.log.now c.args.mark pass_0 (failed c.is_mark.ensures c.if-not-is_mark.true))
 
 pub log_length-n-requires : goal.log_length-n-requires
-log_length-n-requires c = let pass_0 : lent_tables_pass c.args.deck.now c.args.schema.now c.args.elements.now c.args.model.now c.args.log.now ≡ true = passed c.lent_tables_pass.ensures c.if-not-lent_tables_pass.false in let fits_0 : StateOver c.args.elements.now c.args.model.now c.args.log.now = lent-state c.args.deck.now c.args.schema.now c.args.elements.now c.args.model.now c.args.log.now pass_0 in fits_0.log_fits.good
+log_length-n-requires c = let pass_0 : lent_tables_pass c.args.deck.now c.args.schema.now c.args.elements.now c.args.model.now c.args.log.now ≡ true = IfOk-at_ok _ c.in_ok-tested.was c.tested.ensures.pass in let fits_0 : StateOver c.args.elements.now c.args.model.now c.args.log.now = lent-state c.args.deck.now c.args.schema.now c.args.elements.now c.args.model.now c.args.log.now pass_0 in fits_0.log_fits.good
 
 pub rollback_merge-requires : goal.rollback_merge-requires
-rollback_merge-requires c = let pass2_0 : lent_tables_pass c.args.deck.now c.args.schema.now c.args.elements.now c.args.model.now c.args.log.now ≡ true = passed c.lent_tables_pass.ensures c.if-not-lent_tables_pass.false in let fits_0 : StateOver c.args.elements.now c.args.model.now c.args.log.now = lent-state c.args.deck.now c.args.schema.now c.args.elements.now c.args.model.now c.args.log.now pass2_0 in let pass_0 : lent_tables_pass c.args.deck.now c.args.schema.now c.args.elements.now c.args.model.now c.args.log.now ≡ true = passed c.lent_tables_pass.ensures c.if-not-lent_tables_pass.false in
+rollback_merge-requires c = let pass2_0 : lent_tables_pass c.args.deck.now c.args.schema.now c.args.elements.now c.args.model.now c.args.log.now ≡ true = IfOk-at_ok _ c.in_ok-tested.was c.tested.ensures.pass in let fits_0 : StateOver c.args.elements.now c.args.model.now c.args.log.now = lent-state c.args.deck.now c.args.schema.now c.args.elements.now c.args.model.now c.args.log.now pass2_0 in let pass_0 : lent_tables_pass c.args.deck.now c.args.schema.now c.args.elements.now c.args.model.now c.args.log.now ≡ true = IfOk-at_ok _ c.in_ok-tested.was c.tested.ensures.pass in
     let g = fits_0 in
     let once = lent-once c.args.deck.now c.args.schema.now c.args.elements.now c.args.model.now c.args.log.now pass_0 in record { good_model = g.model_fits.good; good_log = g.log_fits.good; each = rw g.model_fits.same g.log_fits.entries; once_if = λ _. once }
 
@@ -37,5 +42,5 @@ overflow_sub-result c =
     omega (arith, c.log_length-n.ensures, low_0)
 
 pub returns : goal.returns
-returns c = let pass_0 : lent_tables_pass c.args.deck.now c.args.schema.now c.args.elements.now c.args.model.now c.args.log.now ≡ true = passed c.lent_tables_pass.ensures c.if-not-lent_tables_pass.false in
+returns c = let pass_0 : lent_tables_pass c.args.deck.now c.args.schema.now c.args.elements.now c.args.model.now c.args.log.now ≡ true = IfOk-at_ok _ c.in_ok-tested.was c.tested.ensures.pass in
     rolled-back c.args.deck.now c.args.schema.now c.args.elements.now c.args.model.now c.args.log.now c.args.mark pass_0 _ c.rollback_merge.new.model c.rollback_merge.new.log (passed c.is_mark.ensures c.if-not-is_mark.false) c.log_length-n.ensures c.rollback_merge.ensures.log_after c.rollback_merge.ensures.keeps_state
