@@ -21,6 +21,7 @@ pub const ACCEPTED: u64 = 255;
 // The code where the lent answer, a table, has a wrong size.
 pub const WRONG_SIZE: u64 = 0;
 
+// The four cells of the answer that C lends, and the code that it is handed: so numbers and no enum.
 #[derive(Clone, Copy)]
 pub struct Numbers {
     pub code: u64,

@@ -14,6 +14,7 @@ use tables::log::LOG_SIZE;
 use tables::model::MODEL_SIZE;
 use tables::schema::SCHEMA_SIZE;
 
+// Three functions for the three calls, as output has three: those hold of tables that stand, these of any.
 fn merge_line(
     deck: &[u8],
     schema: &[u64],

@@ -11,7 +11,7 @@ use scripts::cells::cut;
 use scripts::words;
 use std::io;
 use std::rt::Files;
-use streams::answers::{held, read_file, word};
+use streams::answers::{differing, held, read_file, word};
 use streams::buffer::{deck_buffer, megabyte};
 
 fn answers_held(
@@ -37,22 +37,11 @@ fn script_held(rt: &(impl Files + Print), name: &[u8]) -> io::Result<bool> {
     answers_held(rt, name, &out, m)
 }
 
-// How many of the list's scripts differ.
-fn differing(rt: &(impl Files + Print), list: &[u8]) -> io::Result<u64> {
-    let mut n: u64 = 0;
-    for line in list.split_inclusive(|byte| *byte == b'\n') {
-        if !script_held(rt, line.strip_suffix(b"\n").unwrap_or(line))? {
-            n = n.wrapping_add(1);
-        }
-    }
-    Ok(n)
-}
-
 fn run_list(rt: &(impl Files + Print), list: &[u8]) -> io::Result<()> {
     if list.len() == 0 {
         return word(rt, b"the list names no script\n");
     }
-    rt.print(differing(rt, list)?)?;
+    rt.print(differing(list, |name| script_held(rt, name))?)?;
     word(rt, b" scripts differ\n")
 }
 

@@ -5,6 +5,7 @@ use tables::log::LOG_SIZE;
 use tables::model::MODEL_SIZE;
 use tables::schema::SCHEMA_SIZE;
 
+// Lengths and no slices: a script's `size` lends a table shorter or longer, and the length is what is tried.
 // The cells that each table is lent with, the bytes of the deck, and the bytes printed.
 #[derive(Clone, Copy)]
 pub struct State {

@@ -64,8 +64,8 @@ fn load_file(rt: &(impl Files + Print + Eprint), name: &str, times: u64) -> io::
     }
 }
 
-// As merge_bench has it, apart: what is handed on differs.
-// What the word says, a deck or a number; how often the decks behind it are loaded.
+// What the word says, a deck or a number; how often the decks behind it are loaded. merge_bench has a function for each of these three too: what one
+// word hands on to the next differs, so that one for both would need a closure and a type for it.
 fn load_word(rt: &(impl Files + Print + Eprint), word: &[u8], times: u64) -> io::Result<u64> {
     let v = number(word, 10, 1000000);
     match v {

@@ -128,8 +128,7 @@ fn merge_file(
     }
 }
 
-// As load_bench has it, apart: what is handed on differs.
-// What the word says, a deck or a number; what is asked of the decks behind it.
+// What the word says, a deck or a number; what is asked of the decks behind it. Apart from load_bench's, which says why.
 fn merge_word(rt: &(impl Files + Print + Eprint), word: &[u8], w: Work) -> io::Result<Work> {
     let v = number(word, 10, 1000000);
     match v {

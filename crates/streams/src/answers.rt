@@ -23,8 +23,8 @@ fn append(buf: &mut [u8], at: usize, text: &[u8]) -> usize
     at + n
 }
 
-// As `read_all` of inputs, it answers a count and not the bytes: where the read fails, some stand there too.
-// How many bytes of the file of this name and ending stand at the buffer's start, as far as it has room.
+// How many bytes of the file of this name and ending stand at the buffer's start, as far as it has room. A count, as `read_all` gives: some stand there
+// where the read fails too.
 pub fn read_file(
     rt: &impl Files,
     name: &[u8],

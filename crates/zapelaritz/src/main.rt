@@ -71,7 +71,8 @@ fn run_list(rt: &(impl Files + Print + Eprint), name: &str, list: &str) -> io::R
     }
 }
 
-// The i-th argument, where it is text that fits the buffer.
+// The i-th argument, where it is text that fits the buffer. Apart from that of inputs, and with the system's numbers 22 and 36 and no ErrorKind: the
+// system's words for them are printed.
 fn argument<'a>(rt: &impl Env, i: usize, buf: &'a mut [u8]) -> io::Result<&'a str> {
     match rt.arg(i, buf) {
         Ok(n) => match std::str::from_utf8(&buf[..n]) {
@@ -88,7 +89,7 @@ fn is_given(rt: &impl Env, i: usize) -> bool {
     !matches!(rt.arg(i, &mut word), Err(FillError::NotPresent))
 }
 
-// How many arguments there are, the program's own name among them.
+// How many arguments there are, the program's own name among them. They are asked for one by one: std gives no count here.
 fn arg_count(rt: &impl Env) -> usize {
     for i in 0..usize::MAX {
         if !is_given(rt, i) {

@@ -12,7 +12,7 @@ use load::load::load;
 use merge::calls::{merge, range, rollback};
 use tables::model::clear;
 
-// All lent tables zero, the answer too.
+// All lent tables zero, the answer too: five slices, where load clears three.
 fn clear_lent(
     schema: &mut [u64],
     elements: &mut [u64],
@@ -46,6 +46,7 @@ pub extern "C" fn zapelaritz_load(
         ≡ numbered_load deck.now (tables_of schema.old elements.old model.old log.old)
         answer.old }
 {
+    // The size is tested by each export: where the answer that C lends has no room, the call is not made.
     if answer.len() != ANSWER_SIZE {
         clear_lent(schema, elements, model, log, answer);
         return WRONG_SIZE;
