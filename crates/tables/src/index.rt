@@ -15,7 +15,7 @@ pub const BUCKETS: usize = 512;
 // Heads and links.
 pub const INDEX_SIZE: usize = BUCKETS + ROW_LIMIT;
 
-// Groups by path, rows by name, rows by path.
+// Groups by path, rows by name, rows by path: three cases that each match names, in place of closures.
 #[derive(Clone, Copy)]
 pub enum Index {
     Groups,

@@ -66,6 +66,7 @@ pub fn entry_at(log: &[u64], i: usize) -> Entry
     requires i_in_bounds { i < length (log_of log.now) }
     ensures { entry_is result ≡ entry_at (log_of log.now) i }
 {
+    // A number, as the cell has it.
     let kind = entry_cell(log, i, 0);
     let e = entry_cell(log, i, 1) as usize;
     let third = entry_cell(log, i, 2);
@@ -91,6 +92,7 @@ struct EntryCells {
     set: FileSet,
 }
 
+// No `From`, which cannot ask that the entry fits.
 fn entry_cells(e: Entry) -> EntryCells
     requires { EntryFits (entry_is e) }
     ensures { entry_cells (entry_is e) ≡ result.kind ∷ result.element ∷ result.third ∷ result.old ∷ set_cells (set_is result.set) }

@@ -33,7 +33,7 @@ pub const MODEL_SIZE: usize = SETS_AT + ELEMENT_LIMIT * SET_WIDTH;
 // The cell of text 0 among the items: those of elements are below it.
 pub const TEXT_CELLS_AT: u64 = ELEMENT_LIMIT as u64;
 
-// One cell as what it says, and back.
+// One cell as what it says, and back. By name and not by `From`: a u64 says not which cell it is, and two of them ask something of what they get.
 
 pub fn cell_parent(c: u64) -> Option<Element>
     ensures { parent_is result ≡ cell_parent c }
@@ -144,7 +144,7 @@ fn raise_from(s: &mut [u64], i: usize, k: u64)
     }
 }
 
-// Each entry from a place on, and k less.
+// Each entry from a place on, and k less. Beside `raise_from`: one asks that no sum overflows, the other that no difference does.
 fn lower_from(s: &mut [u64], i: usize, k: u64)
     requires by_index { (j : ℕ) → i ≤ j → j < length s.old → k ≤ get_or s.old j 0 }
     requires i_in_bounds { i ≤ length s.old }

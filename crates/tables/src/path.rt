@@ -7,6 +7,7 @@ ghost use Rattle.tables.specs.Paths.{path_order, same_path, shared_beginning, ce
 use crate::limits::PATH_LIMIT;
 use std::cmp::Ordering;
 
+// Four fields, not an array: the contracts of all crates name them. No derive of equality or order: it would compare what stands behind a 0.
 #[derive(Clone, Copy)]
 pub struct Path(pub u64, pub u64, pub u64, pub u64);
 

@@ -34,6 +34,7 @@ pub enum Mult {
 }
 
 impl Mult {
+    // It cannot fail: the cells and the deck have numbers up to 2.
     pub fn from_number(n: u64) -> Mult
         ensures { mult_is result ≡ mult_from n }
     {
@@ -76,6 +77,9 @@ pub const NAME_INDEX_AT: usize = GROUP_INDEX_AT + INDEX_SIZE;
 pub const PATH_INDEX_AT: usize = NAME_INDEX_AT + INDEX_SIZE;
 
 pub const SCHEMA_SIZE: usize = PATH_INDEX_AT + INDEX_SIZE;
+
+// The counts of a table, here and in the other tables, and below the cells of a row: a function for each area, since each contract names the
+// records of its own area.
 
 pub fn type_count(schema: &[u64]) -> usize
     requires { GoodSchema schema.now }

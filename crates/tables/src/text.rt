@@ -15,6 +15,7 @@ pub struct Place {
     pub size: usize,
 }
 
+// An enum of its own beside StoredText: an f64 keeps no pattern of a NaN, so that a table's float is its bits.
 #[derive(Clone, Copy)]
 pub enum Text {
     Number(u64),
@@ -44,7 +45,7 @@ pub enum StoredText {
 }
 
 impl StoredText {
-    // The text that a table holds as kind and value.
+    // The text that a table holds as kind and value, two cells that are read together; none is refused here.
     pub fn from_cells(kind: u64, value: u64) -> StoredText
         ensures is { stored_is result ≡ text_from kind value }
         ensures fits { StoredFits result }
