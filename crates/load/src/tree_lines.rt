@@ -26,8 +26,8 @@ use tables::elements::{
 use tables::file_set::FileSet;
 use tables::limits::{DEPTH_LIMIT, ELEMENT_LIMIT, ITEM_LIMIT};
 use tables::model::{Item, add_element, count, insert_item, item_total, list_length, set_of};
-use tables::numbers::{Element, FileNumber, Name, TypeNumber};
-use tables::schema::{row_child, type_mode};
+use tables::numbers::{Element, FileNumber, Name, ROOT, TypeNumber};
+use tables::schema::{CHARACTERS, MIXED, row_child, type_mode};
 
 // After an M or B line: a root is due, and nothing is open.
 fn open_tree(p: Progress, kind: Kind, seen: bool) -> Progress
@@ -61,7 +61,7 @@ fn loaded_files(model: &[u64]) -> FileSet
     if count(model) == 0 {
         return FileSet::none();
     }
-    set_of(model, Element(0))
+    set_of(model, ROOT)
 }
 
 // The file is declared, outside the root's set, and has no tree yet.
@@ -276,7 +276,7 @@ fn takes_text(mode: u64) -> bool
     requires { mode < 5 }
     ensures { result ≡ takes_text (mode_from mode) }
 {
-    2 < mode
+    matches!(mode, MIXED | CHARACTERS)
 }
 
 // `C,depth,kind,value`

@@ -9,7 +9,7 @@ ghost use Rattle.merge_rules.specs.CallLists as rules;
 ghost use Rattle.requests.specs.Requests.{request_is, only_number};
 
 use deck::fields::WORD_LIMIT;
-use deck::lines::{Fields, number_at, places, split};
+use deck::lines::{Fields, bytes_of, number_at, split};
 
 // What a line asks for.
 #[derive(Clone, Copy)]
@@ -37,8 +37,7 @@ fn begins_with(calls: &[u8], f: Fields, word: &[u8]) -> bool
     requires { Placed calls.now f }
     ensures { result ≡ same_list (field (fields_of calls.now f) 0).bytes word.now }
 {
-    let p = places(f, 0);
-    same_word(&calls[p.start..p.end], word)
+    same_word(bytes_of(calls, f, 0), word)
 }
 
 // Field i as a number of 64 bits.

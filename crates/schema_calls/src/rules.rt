@@ -14,7 +14,7 @@ use deck::lines::RowCells;
 use tables::index::Index;
 use tables::numbers::TypeNumber;
 use tables::path::Path;
-use tables::schema::{group_count, type_count, type_mode};
+use tables::schema::{CHARACTERS, group_count, type_count, type_mode};
 
 pub fn type_declared(schema: &[u64], t: TypeNumber) -> bool
     requires { GoodSchema schema.now }
@@ -63,7 +63,7 @@ pub fn path_valid(schema: &[u64], t: TypeNumber, p: Path, above: usize) -> bool
     if !type_declared(schema, t) {
         return false;
     }
-    if type_mode(schema, t) == 4 {
+    if type_mode(schema, t) == CHARACTERS {
         return false;
     }
     beginnings_declared(schema, t, p, above)

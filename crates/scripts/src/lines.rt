@@ -2,7 +2,7 @@
 ghost use Rattle.deck.specs.Answers.{Placed};
 
 use crate::areas::{Area, area_of};
-use deck::lines::{Fields, places};
+use deck::lines::{Fields, bytes_of};
 use requests::requests::{Request, word_at};
 
 #[derive(Clone, Copy)]
@@ -66,19 +66,11 @@ pub enum Step<'a> {
     Kept,
 }
 
-// Field i.
-fn field(script: &[u8], f: Fields, i: usize) -> &[u8]
-    requires { Placed script.now f }
-{
-    let p = places(f, i);
-    &script[p.start..p.end]
-}
-
 // `put,area,row,column,value`, and behind it how many rows, if not 1
 fn read_put(script: &[u8], f: Fields) -> Option<Step<'_>>
     requires { Placed script.now f }
 {
-    let area = area_of(field(script, f, 1))?;
+    let area = area_of(bytes_of(script, f, 1))?;
     let row = word_at(script, f, 2)?;
     let column = word_at(script, f, 3)?;
     let value = word_at(script, f, 4)?;
@@ -103,7 +95,7 @@ fn read_put(script: &[u8], f: Fields) -> Option<Step<'_>>
 fn read_show(script: &[u8], f: Fields) -> Option<Step<'_>>
     requires { Placed script.now f }
 {
-    let name = field(script, f, 1);
+    let name = bytes_of(script, f, 1);
     let area = area_of(name)?;
     let row = word_at(script, f, 2)?;
     let rows = word_at(script, f, 3)?;
@@ -123,7 +115,7 @@ fn read_show(script: &[u8], f: Fields) -> Option<Step<'_>>
 fn read_size(script: &[u8], f: Fields) -> Option<Step<'_>>
     requires { Placed script.now f }
 {
-    let table = match field(script, f, 1) {
+    let table = match bytes_of(script, f, 1) {
         b"schema" => Table::Schema,
         b"elements" => Table::Elements,
         b"model" => Table::Model,
@@ -154,7 +146,7 @@ fn read_all(script: &[u8], f: Fields) -> Option<Step<'_>>
 fn read_deck(script: &[u8], f: Fields) -> Option<Step<'_>>
     requires { Placed script.now f }
 {
-    let file = field(script, f, 1);
+    let file = bytes_of(script, f, 1);
     if f.count == 2 {
         Some(Step::Deck { file })
     } else {
@@ -166,7 +158,7 @@ fn read_deck(script: &[u8], f: Fields) -> Option<Step<'_>>
 fn read_word(script: &[u8], f: Fields) -> Option<Step<'_>>
     requires { Placed script.now f }
 {
-    match field(script, f, 0) {
+    match bytes_of(script, f, 0) {
         b"test" => Some(Step::Call(Call::Test)),
         b"cells" => Some(Step::Call(Call::Count)),
         b"same" => Some(Step::Same),
@@ -184,7 +176,7 @@ pub fn read_step(script: &[u8], f: Fields) -> Option<Step<'_>>
     if f.count == 1 {
         return read_word(script, f);
     }
-    match field(script, f, 0) {
+    match bytes_of(script, f, 0) {
         b"put" => read_put(script, f),
         b"show" => read_show(script, f),
         b"size" => read_size(script, f),

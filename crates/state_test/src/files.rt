@@ -17,14 +17,14 @@ use tables::elements::{tree_count, tree_file};
 use tables::file_set::FileSet;
 use tables::log::{Entry, entry_at, log_length};
 use tables::model::{count, set_of};
-use tables::numbers::Element;
+use tables::numbers::{Element, ROOT};
 
 // The model root's set is not 0.
 fn root_set_stored(model: &[u64]) -> bool
     requires { GoodModel model.now }
     ensures { result ≡ root_set_stored (model_of model.now) }
 {
-    count(model) != 0 && !set_of(model, Element(0)).is_empty()
+    count(model) != 0 && !set_of(model, ROOT).is_empty()
 }
 
 // Each set of the model is a part of d, the declared files.
@@ -84,7 +84,7 @@ fn tree_files_distinct(elements: &[u64], model: &[u64]) -> bool
     requires nonzero { 0 < count_of (model_of model.now) }
     ensures { result ≡ tree_files_distinct (keep (waits (model_of model.now)) (elements_of elements.now).trees) }
 {
-    let loaded = set_of(model, Element(0));
+    let loaded = set_of(model, ROOT);
     let mut seen = FileSet::none();
     for i in 0..tree_count(elements) {
         let f = tree_file(elements, i);

@@ -15,7 +15,7 @@ use tables::elements::{
     element_count, element_depth, element_name, element_type, tree_count, tree_root,
 };
 use tables::model::{Item, count, item_at, list_length};
-use tables::numbers::{Element, Name, TypeNumber};
+use tables::numbers::{Element, Name, ROOT, TypeNumber};
 use tables::schema::{row_child, row_count, row_name, row_type};
 
 fn root_valid(elements: &[u64], e: Element) -> bool
@@ -31,7 +31,7 @@ pub fn roots_valid(elements: &[u64]) -> bool
     requires { GoodElements elements.now }
     ensures { (deck schema : List ℕ) → result ≡ roots_valid (fixed_in deck schema elements.now) }
 {
-    if !root_valid(elements, Element(0)) {
+    if !root_valid(elements, ROOT) {
         return false;
     }
     for i in 0..tree_count(elements) {
