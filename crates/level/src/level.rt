@@ -32,6 +32,14 @@ use tables::log::log_length;
 use tables::model::{Item, item_at, list_length, set_of};
 use tables::numbers::{Element, FileNumber};
 
+// What is merged into a level: the new file and its version, beside the files of the level.
+#[derive(Clone, Copy)]
+pub struct Delivery {
+    pub file: FileNumber,
+    pub version: u64,
+    pub files: FileSet,
+}
+
 // Cells for the plan of any level.
 const WORK_SIZE: usize = 7 * ITEM_LIMIT;
 
@@ -127,9 +135,7 @@ fn apply_plan(
     log: &mut [u64],
     work: &[u16],
     rows: Rows,
-    f: FileNumber,
-    version: u64,
-    files: FileSet,
+    d: Delivery,
     a: Element,
 ) -> Result<(), Halt>
     requires tested_schema { TestedSchema schema.now }
@@ -137,14 +143,16 @@ fn apply_plan(
     requires each { Each (λ (t : ℕ). t < length (schema_of schema.now).types) (elements_of elements.now).types }
     requires state_over { StateOver elements.now model.old log.old }
     requires rows_in { RowsIn (length (elements_of elements.now).names) work.now rows.first rows.new }
-    requires f_lt_file_limit { f.0 < file_limit }
-    requires version_value { version ≡ version_of (schema_of schema.now) f.0 }
+    requires f_lt_file_limit { d.file.0 < file_limit }
+    requires version_value { d.version ≡ version_of (schema_of schema.now) d.file.0 }
     requires a_in_bounds { a.0 < length (elements_of elements.now).names }
-    ensures by_index { (deck : List ℕ) → outcome_is result (state_in model.new log.new) ≡ apply_plan (fixed_in deck schema.now elements.now) f.0 (set_is files) a.0 (plan_in rows.first rows.new work.now) (state_in model.old log.old) }
+    ensures by_index { (deck : List ℕ) → outcome_is result (state_in model.new log.new) ≡ apply_plan (fixed_in deck schema.now elements.now) d.file.0 (set_is d.files) a.0 (plan_in rows.first rows.new work.now) (state_in model.old log.old) }
     ensures keeps_state { KeepsState model.old log.old model.new log.new }
 {
-    restrict_elements(model, log, work, rows.first, files)?;
-    import_new_items(schema, elements, model, log, work, rows, f, version, a)
+    restrict_elements(model, log, work, rows.first, d.files)?;
+    import_new_items(
+        schema, elements, model, log, work, rows, d.file, d.version, a,
+    )
 }
 
 // The version of a pair's level: A without a set has the files of the level above, and so its version.
@@ -169,26 +177,24 @@ pub fn merge_apart(
     elements: &[u64],
     model: &mut [u64],
     log: &mut [u64],
-    f: FileNumber,
-    version: u64,
-    files: FileSet,
+    d: Delivery,
     a: Element,
     b: Element,
     depth: usize,
 ) -> Result<(), Halt>
     requires good_fixed { GoodFixed deck.now schema.now elements.now }
     requires state_over { StateOver elements.now model.old log.old }
-    requires f_lt_file_limit { f.0 < file_limit }
-    requires version_value { version ≡ version_of (schema_of schema.now) f.0 }
+    requires f_lt_file_limit { d.file.0 < file_limit }
+    requires version_value { d.version ≡ version_of (schema_of schema.now) d.file.0 }
     requires a_in_bounds { a.0 < length (elements_of elements.now).names }
     requires b_in_bounds { b.0 < length (elements_of elements.now).names }
-    ensures log_after { outcome_is result (state_in model.new log.new) ≡ merge_element depth (fixed_in deck.now schema.now elements.now) f.0 (set_is files) a.0 b.0 (state_in model.old log.old) }
+    ensures log_after { outcome_is result (state_in model.new log.new) ≡ merge_element depth (fixed_in deck.now schema.now elements.now) d.file.0 (set_is d.files) a.0 b.0 (state_in model.old log.old) }
     ensures keeps_state { KeepsState model.old log.old model.new log.new }
 {
-    let v = least_version(schema, files, version);
+    let v = least_version(schema, d.files, d.version);
     let mut work = [0u16; WORK_SIZE];
     merge_element(
-        deck, schema, elements, model, log, &mut work, f, version, v, files, a, b, depth,
+        deck, schema, elements, model, log, &mut work, d, v, a, b, depth,
     )
 }
 
@@ -201,23 +207,21 @@ fn merge_element(
     model: &mut [u64],
     log: &mut [u64],
     work: &mut [u16],
-    f: FileNumber,
-    version: u64,
+    d: Delivery,
     v: u64,
-    files: FileSet,
     a: Element,
     b: Element,
     depth: usize,
 ) -> Result<(), Halt>
     requires good_fixed { GoodFixed deck.now schema.now elements.now }
     requires state_over { StateOver elements.now model.old log.old }
-    requires f_lt_file_limit { f.0 < file_limit }
-    requires version_value { version ≡ version_of (schema_of schema.now) f.0 }
-    requires v_value { v ≡ level_version (fixed_in deck.now schema.now elements.now) f.0 (set_is files) }
+    requires f_lt_file_limit { d.file.0 < file_limit }
+    requires version_value { d.version ≡ version_of (schema_of schema.now) d.file.0 }
+    requires v_value { v ≡ level_version (fixed_in deck.now schema.now elements.now) d.file.0 (set_is d.files) }
     requires a_in_bounds { a.0 < length (elements_of elements.now).names }
     requires b_in_bounds { b.0 < length (elements_of elements.now).names }
     requires b_in_bounds_2 { 2 * length (list_of (model_of model.old) a.0) + 5 * length (list_of (model_of model.old) b.0) ≤ length work.old }
-    ensures log_after { outcome_is result (state_in model.new log.new) ≡ merge_element depth (fixed_in deck.now schema.now elements.now) f.0 (set_is files) a.0 b.0 (state_in model.old log.old) }
+    ensures log_after { outcome_is result (state_in model.new log.new) ≡ merge_element depth (fixed_in deck.now schema.now elements.now) d.file.0 (set_is d.files) a.0 b.0 (state_in model.old log.old) }
     ensures keeps_state { KeepsState model.old log.old model.new log.new }
 {
     if depth == 0 {
@@ -234,9 +238,7 @@ fn merge_element(
         Err(Unplanned::UsedTwice(c)) => return Err(Refusal::UsedTwice(c).into()),
         Err(Unplanned::Unmergeable) => return Err(Refusal::Unmergeable(a).into()),
     };
-    apply_plan(
-        schema, elements, model, log, work, rows, f, version, files, a,
-    )?;
+    apply_plan(schema, elements, model, log, work, rows, d, a)?;
     merge_sub_elements(
         deck,
         schema,
@@ -245,10 +247,8 @@ fn merge_element(
         log,
         work,
         rows.first,
-        f,
-        version,
+        d,
         v,
-        files,
         a,
         depth - 1,
     )?;
@@ -265,21 +265,19 @@ fn merge_sub_elements(
     log: &mut [u64],
     work: &mut [u16],
     na: usize,
-    f: FileNumber,
-    version: u64,
+    d: Delivery,
     v: u64,
-    files: FileSet,
     p: Element,
     depth: usize,
 ) -> Result<(), Halt>
     requires good_fixed { GoodFixed deck.now schema.now elements.now }
     requires state_over { StateOver elements.now model.old log.old }
-    requires f_lt_file_limit { f.0 < file_limit }
-    requires version_value { version ≡ version_of (schema_of schema.now) f.0 }
-    requires v_value { v ≡ level_version (fixed_in deck.now schema.now elements.now) f.0 (set_is files) }
+    requires f_lt_file_limit { d.file.0 < file_limit }
+    requires version_value { d.version ≡ version_of (schema_of schema.now) d.file.0 }
+    requires v_value { v ≡ level_version (fixed_in deck.now schema.now elements.now) d.file.0 (set_is d.files) }
     requires p_in_bounds { p.0 < length (elements_of elements.now).names }
     requires rows_in { RowsIn (length (elements_of elements.now).names) work.old na 0 }
-    ensures log_after { outcome_is result (state_in model.new log.new) ≡ merge_sub_elements (merge_element depth (fixed_in deck.now schema.now elements.now) f.0) (fixed_in deck.now schema.now elements.now) f.0 v p.0 (set_is files) (plan_in na 0 work.old).pairs (state_in model.old log.old) }
+    ensures log_after { outcome_is result (state_in model.new log.new) ≡ merge_sub_elements (merge_element depth (fixed_in deck.now schema.now elements.now) d.file.0) (fixed_in deck.now schema.now elements.now) d.file.0 v p.0 (set_is d.files) (plan_in na 0 work.old).pairs (state_in model.old log.old) }
     ensures keeps_state { KeepsState model.old log.old model.new log.new }
 {
     let rows = 2 * na;
@@ -295,10 +293,8 @@ fn merge_sub_elements(
             model,
             log,
             &mut work[rows..],
-            f,
-            version,
+            d,
             v,
-            files,
             p,
             a,
             b,
@@ -317,10 +313,8 @@ fn merge_pair(
     model: &mut [u64],
     log: &mut [u64],
     work: &mut [u16],
-    f: FileNumber,
-    version: u64,
+    d: Delivery,
     v: u64,
-    files: FileSet,
     p: Element,
     a: Element,
     b: Element,
@@ -328,22 +322,23 @@ fn merge_pair(
 ) -> Result<(), Halt>
     requires good_fixed { GoodFixed deck.now schema.now elements.now }
     requires state_over { StateOver elements.now model.old log.old }
-    requires f_lt_file_limit { f.0 < file_limit }
-    requires version_value { version ≡ version_of (schema_of schema.now) f.0 }
-    requires v_value { v ≡ level_version (fixed_in deck.now schema.now elements.now) f.0 (set_is files) }
+    requires f_lt_file_limit { d.file.0 < file_limit }
+    requires version_value { d.version ≡ version_of (schema_of schema.now) d.file.0 }
+    requires v_value { v ≡ level_version (fixed_in deck.now schema.now elements.now) d.file.0 (set_is d.files) }
     requires p_in_bounds { p.0 < length (elements_of elements.now).names }
     requires a_in_bounds { a.0 < length (elements_of elements.now).names }
     requires b_in_bounds { b.0 < length (elements_of elements.now).names }
-    ensures log_after { outcome_is result (state_in model.new log.new) ≡ merge_pair (merge_element depth (fixed_in deck.now schema.now elements.now) f.0) (fixed_in deck.now schema.now elements.now) f.0 v p.0 (set_is files) (record { a = a.0; b = b.0 }) (state_in model.old log.old) }
+    ensures log_after { outcome_is result (state_in model.new log.new) ≡ merge_pair (merge_element depth (fixed_in deck.now schema.now elements.now) d.file.0) (fixed_in deck.now schema.now elements.now) d.file.0 v p.0 (set_is d.files) (record { a = a.0; b = b.0 }) (state_in model.old log.old) }
     ensures keeps_state { KeepsState model.old log.old model.new log.new }
 {
     if is_bare(model, a, b, depth) {
-        return extend_pair(model, log, f, a);
+        return extend_pair(model, log, d.file, a);
     }
-    let own = files_of_pair(model, files, a);
+    let own = files_of_pair(model, d.files, a);
+    let lower = Delivery { files: own, ..d };
     let mark = log_length(log);
     if level_room(model, a, b) <= work.len() {
-        let own_version = pair_version(schema, model, version, v, a);
+        let own_version = pair_version(schema, model, d.version, v, a);
         let below = merge_element(
             deck,
             schema,
@@ -351,25 +346,21 @@ fn merge_pair(
             model,
             log,
             work,
-            f,
-            version,
+            lower,
             own_version,
-            own,
             a,
             b,
             depth,
         );
         if below.is_ok() {
-            return extend_pair(model, log, f, a);
+            return extend_pair(model, log, d.file, a);
         }
         return settle(
-            deck, schema, elements, model, log, f, v, p, a, b, own, mark, below,
+            deck, schema, elements, model, log, d.file, v, p, a, b, own, mark, below,
         );
     }
-    let below = merge_apart(
-        deck, schema, elements, model, log, f, version, own, a, b, depth,
-    );
+    let below = merge_apart(deck, schema, elements, model, log, lower, a, b, depth);
     settle(
-        deck, schema, elements, model, log, f, v, p, a, b, own, mark, below,
+        deck, schema, elements, model, log, d.file, v, p, a, b, own, mark, below,
     )
 }

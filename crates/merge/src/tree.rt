@@ -14,7 +14,7 @@ ghost use Rattle.merge_rules.specs.Calls.{merge_tree};
 ghost use Rattle.merge_log.specs.Answers.{outcome_is};
 ghost use Rattle.merge.specs.Calls.{FindsTree};
 
-use level::level::merge_apart;
+use level::level::{Delivery, merge_apart};
 use merge_log::log::extend;
 use merge_log::refusals::Halt;
 use schema_calls::files::{tree_place, version_of};
@@ -72,8 +72,11 @@ pub fn merge_tree(
 {
     let version = version_of(schema, f);
     let files = set_of(model, ROOT);
-    merge_apart(
-        deck, schema, elements, model, log, f, version, files, ROOT, b, LEVELS,
-    )?;
+    let d = Delivery {
+        file: f,
+        version,
+        files,
+    };
+    merge_apart(deck, schema, elements, model, log, d, ROOT, b, LEVELS)?;
     extend(model, log, ROOT, f)
 }

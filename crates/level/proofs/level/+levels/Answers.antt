@@ -18,7 +18,7 @@ merge_apart-merge_element-requires t c =
     let fits = c.requires.state_over.model_fits in
     let z = fits.same in
     let room = room_most c.args.model.now fits.good c.args.a.0 c.args.b.0 (rw z c.requires.a_in_bounds) (rw z c.requires.b_in_bounds) in
-    (omega arith, (c.requires.good_fixed, (c.requires.state_over, (c.requires.f_lt_file_limit, (c.requires.version_value, (c.least_version-v.ensures ∙ level-version-is c.args.schema.now c.args.f.0 c.args.version c.requires.version_value c.args.deck.now c.args.elements.now (set_is c.args.files), (c.requires.a_in_bounds, (c.requires.b_in_bounds, room))))))))
+    (omega arith, (c.requires.good_fixed, (c.requires.state_over, (c.requires.f_lt_file_limit, (c.requires.version_value, (c.least_version-v.ensures ∙ level-version-is c.args.schema.now c.args.d.file.0 c.args.d.version c.requires.version_value c.args.deck.now c.args.elements.now (set_is c.args.d.files), (c.requires.a_in_bounds, (c.requires.b_in_bounds, room))))))))
 
 pub merge_element-returns-then-depth-eq0-clause-log_after : goal.merge_element-returns-then-depth-eq0-clause-log_after
 merge_element-returns-then-depth-eq0-clause-log_after t c = rw c.into.ensures (level-none _ _ _ _ _ _ _ c.if-depth-eq0.true)
@@ -66,7 +66,7 @@ merge_pair-returns-then-is_bare-clause-log_after t c =
 
 pub merge_pair-merge_element-below-requires : goal.merge_pair-merge_element-below-requires
 merge_pair-merge_element-below-requires t c =
-    let version = pair-version-is c.args.schema.now c.args.f.0 c.args.version c.requires.version_value c.args.deck.now c.args.elements.now (set_is c.args.files) c.args.v c.requires.v_value (model_of c.args.model.now) c.args.a.0 c.pair_version-own_version.result c.pair_version-own_version.ensures (set_is c.files_of_pair-own.result) c.files_of_pair-own.ensures in
+    let version = pair-version-is c.args.schema.now c.args.d.file.0 c.args.d.version c.requires.version_value c.args.deck.now c.args.elements.now (set_is c.args.d.files) c.args.v c.requires.v_value (model_of c.args.model.now) c.args.a.0 c.pair_version-own_version.result c.pair_version-own_version.ensures (set_is c.files_of_pair-own.result) c.files_of_pair-own.ensures in
     (omega arith, (c.requires.good_fixed, (c.requires.state_over, (c.requires.f_lt_file_limit, (c.requires.version_value, (version, (c.requires.a_in_bounds, (c.requires.b_in_bounds, omega (arith, c.level_room.ensures, c.if-level_room-work.true)))))))))
 
 pub merge_pair-extend_pair-requires-then-is_ok : goal.merge_pair-extend_pair-requires-then-is_ok

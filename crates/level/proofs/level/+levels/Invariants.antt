@@ -20,4 +20,4 @@ decreases-merge_sub_elements l = 4 * l.depth + 3
 -- the pairs of the rows before i are done: those from i on do to the tables what is left of the whole
 abbrev pub invariant-merge_sub_elements-loop-i : goal.invariant-merge_sub_elements-loop-i
 invariant-merge_sub_elements-loop-i l =
-    PairsLeft (merge_element l.depth (fixed_in l.deck l.schema l.elements) l.f.0) l.deck l.schema l.elements l.f.0 l.v l.p.0 (set_is l.files) l.na l.initial.work l.initial.model l.initial.log l.work l.model l.log l.i
+    PairsLeft (merge_element l.depth (fixed_in l.deck l.schema l.elements) l.d.file.0) l.deck l.schema l.elements l.d.file.0 l.v l.p.0 (set_is l.d.files) l.na l.initial.work l.initial.model l.initial.log l.work l.model l.log l.i
