@@ -20,7 +20,7 @@ use tables::path::Path;
 use tables::schema::row_path;
 use tables::text::same_text;
 
-// Both cursors; A with a B sibling; A only; B only; refusal 6 with the A parent.
+// Both cursors; A with a B sibling; A only; B only; refusal 6 with the A parent, which is one of the rule's actions too.
 #[derive(Clone, Copy, PartialEq, Eq)]
 pub enum Action {
     MergeEqual,
@@ -99,7 +99,7 @@ pub fn cursor_action(tables: &Tables, t: TypeNumber, a: Element, b: Element) -> 
     Some(Action::AOnly)
 }
 
-// Names equal and keys different, A identifiable.
+// Names equal and keys different, A identifiable. This function and the next are two, as document 01 names both.
 fn calc_identifiables_merge(
     tables: &Tables,
     splittable: bool,

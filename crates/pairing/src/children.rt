@@ -19,6 +19,7 @@ pub fn copy_rows<const WIDTH: usize>(model: &[u64], e: Element, work: &mut [u16]
     ensures { CopiedRows WIDTH work.new result (children_of (model_of model.now) e.0) }
 {
     let n = list_length(model, e);
+    // Counts the children, while the loop counts items.
     let mut k: usize = 0;
     for i in 0..n {
         let Item::Child(x) = item_at(model, e, i) else {

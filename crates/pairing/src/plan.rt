@@ -1,6 +1,7 @@
 // A level's plan in the scratch slice. For each child of A a row of two cells, its number and its mate's number + 1, or 0; then the B-only
 // list, rows of two cells, element and position; behind it, during the walk, the numbers of B's children and the marks
-// of their keys.
+// of their keys. It is one slice of numbers, lent for all levels, since there is no heap; the marks lie side by side, so that several are compared at a
+// time.
 ghost use Rattle.std.specs.Prelude.{◌≡◌, ℕ, ◌+◌, ◌-◌, ◌*◌, ◌<◌, ◌≤◌, length, get_or, set};
 ghost use Rattle.tables.specs.Limits.{element_limit, item_limit};
 ghost use Rattle.merge_rules.specs.Pairing.{first_used_twice};
@@ -69,7 +70,7 @@ pub enum Unplanned {
     Unmergeable,
 }
 
-// How many rows A has, and where the numbers of B's children start and end.
+// How many rows A has, and where the numbers of B's children start and end: places, since these parts lie in one slice that is lent as `&mut`.
 #[derive(Clone, Copy)]
 pub struct Sides {
     pub rows: usize,
