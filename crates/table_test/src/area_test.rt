@@ -24,6 +24,7 @@ pub enum Area {
     Entries(u64),
 }
 
+// By match and not by a closure for each area: the areas are these eight, and each match says what the definitions of the test say.
 impl Area {
     fn width(self) -> usize
         ensures { result ≡ area_width self }
@@ -80,6 +81,8 @@ impl Area {
         }
         let w = self.width();
         let n = count as usize;
+
+        // By places: by chunks_exact a row takes up to twice as long.
         for i in 0..n {
             let a = i * w;
             let b = a + w;

@@ -16,6 +16,7 @@ pub fn element_passes(row: &[u64], types: u64) -> bool
     (row[0] <= NAME_LIMIT) & (row[1] < types) & (row[2] <= DEPTH_LIMIT)
 }
 
+// Kinds are numbers here and in the other tests of rows: cells are what is tested, whatever they hold.
 pub fn text_passes(row: &[u64], size: u64) -> bool
     requires { length row.now ≡ text_width }
     ensures { result ≡ every (text_tests size row.now) }

@@ -34,6 +34,7 @@ fn cell_in_range(c: u64, n: u64, texts: u64) -> bool
     c - model::TEXT_CELLS_AT < texts
 }
 
+// As `all_at_most`, which stands by itself: no closure is called in this loop.
 fn cells_in_range(s: &[u64], n: u64, texts: u64) -> bool
     ensures { result ≡ all_of (cell_in_range n texts) s.now }
 {
@@ -44,7 +45,8 @@ fn cells_in_range(s: &[u64], n: u64, texts: u64) -> bool
     all
 }
 
-// No element twice in a list, from the end to the front: the elements passed are marked with this list's number.
+// No element twice in a list, from the end to the front: the elements passed are marked with this list's number. By places: what is marked is said of
+// the cells from a place on.
 fn once(list: &[u64], marks: &mut [u64], mark: u64) -> bool
     requires marks_len { length marks.old ≡ element_limit }
     requires by_index { (k : ℕ) → get_or marks.old k 0 < mark }

@@ -33,14 +33,17 @@ pub fn type_passes(row: &[u64]) -> bool
     requires { length row.now ≡ type_width }
     ensures { result ≡ every (type_tests row.now) }
 {
-    (row[0] <= 4) & (row[1] <= 1) & (row[2] < MASK_LIMIT)
+    (row[0] <= schema::CHARACTERS) & (row[1] <= 1) & (row[2] < MASK_LIMIT)
 }
 
 pub fn group_passes(row: &[u64]) -> bool
     requires { length row.now ≡ group_width }
     ensures { result ≡ every (group_tests row.now) }
 {
-    (row[0] < TYPES) & path_passes(row[1], row[2], row[3], row[4]) & (row[4] == 0) & (row[5] <= 3)
+    (row[0] < TYPES)
+        & path_passes(row[1], row[2], row[3], row[4])
+        & (row[4] == 0)
+        & (row[5] <= schema::MIXED)
 }
 
 pub fn sub_element_passes(row: &[u64]) -> bool
@@ -63,7 +66,7 @@ pub fn file_passes(row: &[u64]) -> bool
     (row[0] < FILE_LIMIT) & (row[1] < VERSION_LIMIT)
 }
 
-// Each file's number is more than the one before.
+// Each file's number is more than the one before. By places: a pair of chunks would need a row beside it.
 fn files_ascend(area: &[u64], count: usize) -> bool
     requires { count * file_width ≤ length area.now }
     ensures { result ≡ files_ascend (rows_in file_width count area.now) }
