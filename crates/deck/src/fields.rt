@@ -53,8 +53,8 @@ pub fn number(s: &[u8], radix: u64, most: u64) -> Option<u64>
     Some(value)
 }
 
-// The first place in [at, end) with this byte, or the end. Never inlined: in the loops that call it the compiler keeps a dozen counters beside its
-// own, and load takes a third longer.
+// The first place in [at, end) with this byte, or the end. A loop: the place that `position` gives counts from `at`. Never inlined: where it is, the
+// loop counts a dozen numbers of its caller too, and load takes a third longer.
 #[inline(never)]
 pub fn find_byte(s: &[u8], separator: u8, at: usize, end: usize) -> usize
     requires { (at ≤ end) × (end ≤ length s.now) }
@@ -68,7 +68,7 @@ pub fn find_byte(s: &[u8], separator: u8, at: usize, end: usize) -> usize
     end
 }
 
-// The path with one more part behind its n parts.
+// The path with one more part behind its n parts. By hand, since a path is four fields.
 fn with_part(p: Path, n: usize, v: u64) -> Path
     requires { (length (parts_of p) ≡ n) × (n < path_limit) × (v < 2 ^ 32) }
     ensures { parts_of result ≡ parts_of p ++ (v ∷ []) }

@@ -34,7 +34,7 @@ pub fn line_end(deck: &[u8], at: usize) -> usize
     find_byte(deck, b'\n', at, deck.len())
 }
 
-// Two places in the deck.
+// Two places in the deck. A string of a table is a `Place`, with a size, as its cell has it.
 #[derive(Clone, Copy)]
 pub struct Span {
     pub start: usize,
@@ -43,7 +43,7 @@ pub struct Span {
 
 const NO_BYTES: Span = Span { start: 0, end: 0 };
 
-// The places of a line's fields, as far as 8: no kind of line has more than 7.
+// The places of a line's fields, as far as 8: no kind of line has more than 7. An array and a count, which can be copied.
 #[derive(Clone, Copy)]
 pub struct Fields {
     pub count: usize,

@@ -36,7 +36,7 @@ fn line_reader<'a>(deck: &'a [u8], at: usize) -> LineReader<'a>
     LineReader { deck, at }
 }
 
-// No line by the reader itself, a small value: a larger one costs far more to prove.
+// The search for a line's end stands in thin functions over ones that the borrow checker covers, not in methods of the reader.
 fn next_end<'a>(r: LineReader<'a>) -> Option<usize>
     requires { r.at ≤ length r.deck.now }
     ensures { EndReads r.entry.deck.now r.entry.at result }
