@@ -8,7 +8,7 @@ ghost use Rattle.tables.specs.ModelTable.{count_of, model_of, GoodModel};
 ghost use Rattle.tables.specs.Records.{list_of};
 ghost use Rattle.tables.specs.SchemaTable.{schema_of, GoodSchema};
 ghost use Rattle.tables.specs.SetCells.{set_is};
-ghost use Rattle.table_test.specs.Fits.{GoodFixed, LogFits, StateOver, KeepsState};
+ghost use Rattle.table_test.specs.Fits.{LogFits, StateOver, KeepsState};
 ghost use Rattle.table_test.specs.SchemaTest.{TestedSchema};
 ghost use Rattle.deck.specs.Schema.{version_of, least_version};
 ghost use Rattle.state_test.specs.StateTest.{fixed_in, state_in};
@@ -16,8 +16,10 @@ ghost use Rattle.merge_rules.specs.Level.{files_of_pair, restrict_elements, merg
 ghost use Rattle.merge_rules.specs.Pairing.{children_of};
 ghost use Rattle.pairing.specs.Plans.{plan_in, row_value, RowsIn};
 ghost use Rattle.merge_log.specs.Answers.{outcome_is};
+ghost use Rattle.level.specs.Lent.{fixed_of};
 ghost use Rattle.level.specs.Level.{restrict_new, apply_plan, merge_pair, Bare};
 
+use crate::lent::Fixed;
 use imports::import::import_new_items;
 use merge_log::log::restrict;
 use merge_log::refusals::{Halt, Refusal};
@@ -172,9 +174,7 @@ fn pair_version(schema: &[u64], model: &[u64], version: u64, v: u64, a: Element)
 // Level with a scratch slice of its own: at the root, and where the plan of a pair has no room in the slice that it was handed.
 #[cycle(levels)]
 pub fn merge_apart(
-    deck: &[u8],
-    schema: &[u64],
-    elements: &[u64],
+    fixed: &Fixed,
     model: &mut [u64],
     log: &mut [u64],
     d: Delivery,
@@ -182,28 +182,23 @@ pub fn merge_apart(
     b: Element,
     depth: usize,
 ) -> Result<(), Halt>
-    requires good_fixed { GoodFixed deck.now schema.now elements.now }
-    requires state_over { StateOver elements.now model.old log.old }
+    requires state_over { StateOver fixed.now.elements.now model.old log.old }
     requires f_lt_file_limit { d.file.0 < file_limit }
-    requires version_value { d.version ≡ version_of (schema_of schema.now) d.file.0 }
-    requires a_in_bounds { a.0 < length (elements_of elements.now).names }
-    requires b_in_bounds { b.0 < length (elements_of elements.now).names }
-    ensures log_after { outcome_is result (state_in model.new log.new) ≡ merge_element depth (fixed_in deck.now schema.now elements.now) d.file.0 (set_is d.files) a.0 b.0 (state_in model.old log.old) }
+    requires version_value { d.version ≡ version_of (schema_of fixed.now.schema.now) d.file.0 }
+    requires a_in_bounds { a.0 < length (elements_of fixed.now.elements.now).names }
+    requires b_in_bounds { b.0 < length (elements_of fixed.now.elements.now).names }
+    ensures log_after { outcome_is result (state_in model.new log.new) ≡ merge_element depth (fixed_of fixed.now) d.file.0 (set_is d.files) a.0 b.0 (state_in model.old log.old) }
     ensures keeps_state { KeepsState model.old log.old model.new log.new }
 {
-    let v = least_version(schema, d.files, d.version);
+    let v = least_version(fixed.schema, d.files, d.version);
     let mut work = [0u16; WORK_SIZE];
-    merge_element(
-        deck, schema, elements, model, log, &mut work, d, v, a, b, depth,
-    )
+    merge_element(fixed, model, log, &mut work, d, v, a, b, depth)
 }
 
 // Level: b is merged into a, by its plan: restrictions and imports, then pairs. At depth 0, where no listed element is, refusal 6. The answer of the pairs goes through `?`, so that the usual one, Ok, is not copied.
 #[cycle(levels)]
 fn merge_element(
-    deck: &[u8],
-    schema: &[u64],
-    elements: &[u64],
+    fixed: &Fixed,
     model: &mut [u64],
     log: &mut [u64],
     work: &mut [u16],
@@ -213,24 +208,23 @@ fn merge_element(
     b: Element,
     depth: usize,
 ) -> Result<(), Halt>
-    requires good_fixed { GoodFixed deck.now schema.now elements.now }
-    requires state_over { StateOver elements.now model.old log.old }
+    requires state_over { StateOver fixed.now.elements.now model.old log.old }
     requires f_lt_file_limit { d.file.0 < file_limit }
-    requires version_value { d.version ≡ version_of (schema_of schema.now) d.file.0 }
-    requires v_value { v ≡ level_version (fixed_in deck.now schema.now elements.now) d.file.0 (set_is d.files) }
-    requires a_in_bounds { a.0 < length (elements_of elements.now).names }
-    requires b_in_bounds { b.0 < length (elements_of elements.now).names }
+    requires version_value { d.version ≡ version_of (schema_of fixed.now.schema.now) d.file.0 }
+    requires v_value { v ≡ level_version (fixed_of fixed.now) d.file.0 (set_is d.files) }
+    requires a_in_bounds { a.0 < length (elements_of fixed.now.elements.now).names }
+    requires b_in_bounds { b.0 < length (elements_of fixed.now.elements.now).names }
     requires b_in_bounds_2 { 2 * length (list_of (model_of model.old) a.0) + 5 * length (list_of (model_of model.old) b.0) ≤ length work.old }
-    ensures log_after { outcome_is result (state_in model.new log.new) ≡ merge_element depth (fixed_in deck.now schema.now elements.now) d.file.0 (set_is d.files) a.0 b.0 (state_in model.old log.old) }
+    ensures log_after { outcome_is result (state_in model.new log.new) ≡ merge_element depth (fixed_of fixed.now) d.file.0 (set_is d.files) a.0 b.0 (state_in model.old log.old) }
     ensures keeps_state { KeepsState model.old log.old model.new log.new }
 {
     if depth == 0 {
         return Err(Refusal::Unmergeable(a).into());
     }
     let tables = Tables {
-        deck,
-        schema,
-        elements,
+        deck: fixed.deck,
+        schema: fixed.schema,
+        elements: fixed.elements,
         model,
     };
     let rows = match plan_level(&tables, v, a, b, work) {
@@ -238,29 +232,15 @@ fn merge_element(
         Err(Unplanned::UsedTwice(c)) => return Err(Refusal::UsedTwice(c).into()),
         Err(Unplanned::Unmergeable) => return Err(Refusal::Unmergeable(a).into()),
     };
-    apply_plan(schema, elements, model, log, work, rows, d, a)?;
-    merge_sub_elements(
-        deck,
-        schema,
-        elements,
-        model,
-        log,
-        work,
-        rows.first,
-        d,
-        v,
-        a,
-        depth - 1,
-    )?;
+    apply_plan(fixed.schema, fixed.elements, model, log, work, rows, d, a)?;
+    merge_sub_elements(fixed, model, log, work, rows.first, d, v, a, depth - 1)?;
     Ok(())
 }
 
 // Pairs, in order. Levels below have the scratch slice behind the rows of A.
 #[cycle(levels)]
 fn merge_sub_elements(
-    deck: &[u8],
-    schema: &[u64],
-    elements: &[u64],
+    fixed: &Fixed,
     model: &mut [u64],
     log: &mut [u64],
     work: &mut [u16],
@@ -270,14 +250,13 @@ fn merge_sub_elements(
     p: Element,
     depth: usize,
 ) -> Result<(), Halt>
-    requires good_fixed { GoodFixed deck.now schema.now elements.now }
-    requires state_over { StateOver elements.now model.old log.old }
+    requires state_over { StateOver fixed.now.elements.now model.old log.old }
     requires f_lt_file_limit { d.file.0 < file_limit }
-    requires version_value { d.version ≡ version_of (schema_of schema.now) d.file.0 }
-    requires v_value { v ≡ level_version (fixed_in deck.now schema.now elements.now) d.file.0 (set_is d.files) }
-    requires p_in_bounds { p.0 < length (elements_of elements.now).names }
-    requires rows_in { RowsIn (length (elements_of elements.now).names) work.old na 0 }
-    ensures log_after { outcome_is result (state_in model.new log.new) ≡ merge_sub_elements (merge_element depth (fixed_in deck.now schema.now elements.now) d.file.0) (fixed_in deck.now schema.now elements.now) d.file.0 v p.0 (set_is d.files) (plan_in na 0 work.old).pairs (state_in model.old log.old) }
+    requires version_value { d.version ≡ version_of (schema_of fixed.now.schema.now) d.file.0 }
+    requires v_value { v ≡ level_version (fixed_of fixed.now) d.file.0 (set_is d.files) }
+    requires p_in_bounds { p.0 < length (elements_of fixed.now.elements.now).names }
+    requires rows_in { RowsIn (length (elements_of fixed.now.elements.now).names) work.old na 0 }
+    ensures log_after { outcome_is result (state_in model.new log.new) ≡ merge_sub_elements (merge_element depth (fixed_of fixed.now) d.file.0) (fixed_of fixed.now) d.file.0 v p.0 (set_is d.files) (plan_in na 0 work.old).pairs (state_in model.old log.old) }
     ensures keeps_state { KeepsState model.old log.old model.new log.new }
 {
     let rows = 2 * na;
@@ -286,20 +265,7 @@ fn merge_sub_elements(
             continue;
         };
         let a = Element(work[2 * i] as usize);
-        merge_pair(
-            deck,
-            schema,
-            elements,
-            model,
-            log,
-            &mut work[rows..],
-            d,
-            v,
-            p,
-            a,
-            b,
-            depth,
-        )?;
+        merge_pair(fixed, model, log, &mut work[rows..], d, v, p, a, b, depth)?;
     }
     Ok(())
 }
@@ -307,9 +273,7 @@ fn merge_sub_elements(
 // One pair: its level, and what becomes of it. The usual answer, Ok, is tested for before it is copied for `settle`.
 #[cycle(levels)]
 fn merge_pair(
-    deck: &[u8],
-    schema: &[u64],
-    elements: &[u64],
+    fixed: &Fixed,
     model: &mut [u64],
     log: &mut [u64],
     work: &mut [u16],
@@ -320,15 +284,14 @@ fn merge_pair(
     b: Element,
     depth: usize,
 ) -> Result<(), Halt>
-    requires good_fixed { GoodFixed deck.now schema.now elements.now }
-    requires state_over { StateOver elements.now model.old log.old }
+    requires state_over { StateOver fixed.now.elements.now model.old log.old }
     requires f_lt_file_limit { d.file.0 < file_limit }
-    requires version_value { d.version ≡ version_of (schema_of schema.now) d.file.0 }
-    requires v_value { v ≡ level_version (fixed_in deck.now schema.now elements.now) d.file.0 (set_is d.files) }
-    requires p_in_bounds { p.0 < length (elements_of elements.now).names }
-    requires a_in_bounds { a.0 < length (elements_of elements.now).names }
-    requires b_in_bounds { b.0 < length (elements_of elements.now).names }
-    ensures log_after { outcome_is result (state_in model.new log.new) ≡ merge_pair (merge_element depth (fixed_in deck.now schema.now elements.now) d.file.0) (fixed_in deck.now schema.now elements.now) d.file.0 v p.0 (set_is d.files) (record { a = a.0; b = b.0 }) (state_in model.old log.old) }
+    requires version_value { d.version ≡ version_of (schema_of fixed.now.schema.now) d.file.0 }
+    requires v_value { v ≡ level_version (fixed_of fixed.now) d.file.0 (set_is d.files) }
+    requires p_in_bounds { p.0 < length (elements_of fixed.now.elements.now).names }
+    requires a_in_bounds { a.0 < length (elements_of fixed.now.elements.now).names }
+    requires b_in_bounds { b.0 < length (elements_of fixed.now.elements.now).names }
+    ensures log_after { outcome_is result (state_in model.new log.new) ≡ merge_pair (merge_element depth (fixed_of fixed.now) d.file.0) (fixed_of fixed.now) d.file.0 v p.0 (set_is d.files) (record { a = a.0; b = b.0 }) (state_in model.old log.old) }
     ensures keeps_state { KeepsState model.old log.old model.new log.new }
 {
     if is_bare(model, a, b, depth) {
@@ -338,29 +301,41 @@ fn merge_pair(
     let lower = Delivery { files: own, ..d };
     let mark = log_length(log);
     if level_room(model, a, b) <= work.len() {
-        let own_version = pair_version(schema, model, d.version, v, a);
-        let below = merge_element(
-            deck,
-            schema,
-            elements,
-            model,
-            log,
-            work,
-            lower,
-            own_version,
-            a,
-            b,
-            depth,
-        );
+        let own_version = pair_version(fixed.schema, model, d.version, v, a);
+        let below = merge_element(fixed, model, log, work, lower, own_version, a, b, depth);
         if below.is_ok() {
             return extend_pair(model, log, d.file, a);
         }
         return settle(
-            deck, schema, elements, model, log, d.file, v, p, a, b, own, mark, below,
+            fixed.deck,
+            fixed.schema,
+            fixed.elements,
+            model,
+            log,
+            d.file,
+            v,
+            p,
+            a,
+            b,
+            own,
+            mark,
+            below,
         );
     }
-    let below = merge_apart(deck, schema, elements, model, log, lower, a, b, depth);
+    let below = merge_apart(fixed, model, log, lower, a, b, depth);
     settle(
-        deck, schema, elements, model, log, d.file, v, p, a, b, own, mark, below,
+        fixed.deck,
+        fixed.schema,
+        fixed.elements,
+        model,
+        log,
+        d.file,
+        v,
+        p,
+        a,
+        b,
+        own,
+        mark,
+        below,
     )
 }

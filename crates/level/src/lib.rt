@@ -1,4 +1,5 @@
 // Level and Pairs on the lent tables.
 #![tactic(auto)]
 
+pub mod lent;
 pub mod level;

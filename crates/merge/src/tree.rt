@@ -14,6 +14,7 @@ ghost use Rattle.merge_rules.specs.Calls.{merge_tree};
 ghost use Rattle.merge_log.specs.Answers.{outcome_is};
 ghost use Rattle.merge.specs.Calls.{FindsTree};
 
+use level::lent::Fixed;
 use level::level::{Delivery, merge_apart};
 use merge_log::log::extend;
 use merge_log::refusals::Halt;
@@ -72,11 +73,16 @@ pub fn merge_tree(
 {
     let version = version_of(schema, f);
     let files = set_of(model, ROOT);
+    let fixed = Fixed {
+        deck,
+        schema,
+        elements,
+    };
     let d = Delivery {
         file: f,
         version,
         files,
     };
-    merge_apart(deck, schema, elements, model, log, d, ROOT, b, LEVELS)?;
+    merge_apart(&fixed, model, log, d, ROOT, b, LEVELS)?;
     extend(model, log, ROOT, f)
 }
