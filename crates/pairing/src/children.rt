@@ -27,9 +27,7 @@ pub fn copy_rows<const WIDTH: usize>(model: &[u64], e: Element, work: &mut [u16]
         };
         let at = WIDTH * k;
         work[at] = x.0 as u16;
-        for c in 1..WIDTH {
-            work[at + c] = 0;
-        }
+        work[at + 1..at + WIDTH].fill(0);
         k += 1;
     }
     k

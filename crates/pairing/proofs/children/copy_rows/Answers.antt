@@ -1,8 +1,13 @@
-use mathlib.Core.Path.{◌≡◌, refl, ◌∙◌}
-use Prim.Native.Nat.{◌+◌, ◌*◌, ◌≤◌, ◌<◌}
+use mathlib.Core.List.{List}
+use mathlib.Core.Path.{◌≡◌, refl, sym, ap, ◌∙◌}
+use Prim.Native.Nat.{ℕ, ◌+◌, ◌-◌, ◌*◌, ◌≤◌, ◌<◌}
 use native.Mathlib.Omega.{arith}
-use lib.ListN.{length, take, length-set}
-use lib.Seq.{get_or-set_same, get_or-set_other}
+use borrow.Author.Rules.{rules}
+use borrow.Rule.Slice.PartMut.{put_mid}
+use lib.ListN.{length, get_or, take, set, length-set}
+use Rattle.std.proofs.lemmas.List.{places}
+use Rattle.std.proofs.lemmas.Slice.{between-put_mid}
+use Rattle.pairing.proofs.Laws.Rows.{get_d_part}
 use Rattle.tables.specs.Records.{list_of}
 use Rattle.tables.specs.ModelTable.{model_of}
 use Rattle.merge_rules.specs.Pairing.{children}
@@ -33,16 +38,29 @@ loop-i-preserved g c =
     let k = c.loop-i.k in
     let x = c.in-Child.x.0 in
     let h : c.loop-i.i < length list = omega (arith, c.loop-i-test.true, c.list_length-n.ensures) in
-    let size : length c.loop-c.work ≡ length w = c.loop-c.invariant.0 ∙ length-set w (width * k) x in
     let fits : width * k + width ≤ length w = omega (arith, row-end width k (length list) (omega (arith, h, c.loop-i.invariant.0)), c.requires.e_in_bounds, c.loop-i.invariant.1) in
-    let at : width * k < length w = omega (arith, fits, c.requires.width_positive) in (
+    let at : width * k < length w = omega (arith, fits, c.requires.width_positive) in
+    let v = set w (width * k) x in
+    let a = width * k + 1 in
+    let e = width * k + width in
+    let zeros = c.fill.new.self in
+    let w' = put_mid a (e - a) v zeros in
+    let zero : (i : ℕ) → i < length zeros → get_or zeros i 0 ≡ 0 = λ i h. search rules in
+    let within : a ≤ length v = omega (arith, at, length-set w (width * k) x) in
+    let long : length zeros ≡ e - a = search (rules, places) in
+    let size : length w' ≡ length w = search (rules, places) in (
       omega (arith, c.loop-i.invariant.0),
       size ∙ c.loop-i.invariant.1,
       rw (children-child list c.loop-i.i c.item_at.result h c.item_at.ensures c.in-Child.x c.in-Child.is)
-          (rows_more width c.requires.width_positive w c.loop-c.work k x (children (take c.loop-i.i list)) (omega (arith, fits, size)) c.loop-i.invariant.2
-          (c.loop-c.invariant.1 (width * k) (omega arith) ∙ get_or-set_same w (width * k) x 0 at)
-          (λ j a. c.loop-c.invariant.1 j (omega arith) ∙ get_or-set_other w (width * k) j x 0 (λ e. omega arith))
-          (λ j p q. c.loop-c.invariant.2 j p (omega (arith, q, c.loop-c-test.false)))),
+          (rows_more width c.requires.width_positive w w' k x (children (take c.loop-i.i list)) (omega (arith, fits, size)) c.loop-i.invariant.2
+          (search (rules, places))
+          (λ j a. search (rules, places))
+          (λ j p q.
+          let same : width * k + j ≡ a + (j - 1) = omega (arith, p) in
+          rw same
+          (sym (get_d_part w' a (e - a) (j - 1) (omega (arith, p, q)))
+          ∙ ap (λ (l : List ℕ). get_or l (j - 1) 0) (between-put_mid a (e - a) v zeros e within long)
+          ∙ zero (j - 1) (omega (arith, p, q, long))))),
     )
 
 pub returns : goal.returns
