@@ -6,9 +6,11 @@ use Rattle.pairing.specs.Keys.{is_name}
 use Rattle.pairing.proofs.Laws.Siblings.{fits, Compared}
 use Rattle.pairing.proofs.sibling.sibling.Given as goal
 
+-- the bytes from j on decide whether all are equal
 abbrev pub invariant-loop-j : goal.invariant-loop-j
 invariant-loop-j l = Compared l.deck l.s l.start l.size l.j
 
+-- the siblings from k on give the first that has A's name and key
 abbrev pub invariant-siblings : goal.invariant-siblings
 invariant-siblings l =
     let t = fits l.tables (is_name l.kind) l.n.0 l.key in
