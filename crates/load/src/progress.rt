@@ -31,9 +31,10 @@ pub struct Progress {
     pub above: [usize; OPEN_LIMIT],
 }
 
-// After a line of this kind, which comes before none of another kind that is there.
+// After a line of this kind; refused where a line of a later kind stands before it.
 pub fn in_order(p: Progress, kind: Kind) -> Result<Progress, Refusal>
-    ensures taken { IfOk result (λ q. (kind_number p.latest ≤ kind_number kind) × (q ≡ record { latest = kind; seen = p.seen; due = p.due; depth = p.depth; above = p.above })) }
+    ensures taken { IfOk result (λ q. (kind_number p.latest ≤ kind_number kind)
+        × (q ≡ record { latest = kind; seen = p.seen; due = p.due; depth = p.depth; above = p.above })) }
     ensures refused { IfErr result (λ r. (kind_number kind < kind_number p.latest) × (r ≡ Form)) }
 {
     if kind < p.latest {
