@@ -73,6 +73,7 @@ fn skip_marks(marks: &[u16], from: usize, mark: u16) -> usize
     ensures { NoMark marks.now mark from result }
 {
     let mut k = from;
+    // No `for`: it passes a block at a time, and the place of the block that has the mark is the answer.
     while k + BLOCK <= marks.len() {
         let end = k + BLOCK;
         if any_marked(&marks[k..end], mark) {
