@@ -77,8 +77,9 @@ fn move_up(s: &mut [u64], k: usize, v: u64)
     requires { k ≤ length s.old }
     ensures { s.new ≡ shift_in s.old 0 k v }
 {
-    let n = s.len() - k;
-    s.copy_within(..n, k);
+    for j in (0..s.len() - k).rev() {
+        s[j + k] = s[j];
+    }
     s[..k].fill(v);
 }
 
@@ -108,7 +109,9 @@ fn move_down(s: &mut [u64], k: usize)
     ensures { s.new ≡ shift_out s.old 0 k }
 {
     let n = s.len() - k;
-    s.copy_within(k.., 0);
+    for j in 0..n {
+        s[j] = s[j + k];
+    }
     clear(&mut s[n..]);
 }
 
@@ -136,22 +139,20 @@ fn shift_out(s: &mut [u64], i: usize, k: usize)
 fn raise_from(s: &mut [u64], i: usize, k: u64)
     requires by_index { (j : ℕ) → get_or s.old j 0 ≤ item_limit }
     requires k_le_item_limit { k ≤ item_limit }
-    requires i_in_bounds { i ≤ length s.old }
     ensures { s.new ≡ on_from (λ (x : ℕ). x + k) s.old i }
 {
-    for x in &mut s[i..] {
-        *x += k;
+    for j in i..s.len() {
+        s[j] += k;
     }
 }
 
 // Each entry from a place on, and k less. Beside `raise_from`: one asks that no sum overflows, the other that no difference does.
 fn lower_from(s: &mut [u64], i: usize, k: u64)
-    requires by_index { (j : ℕ) → i ≤ j → j < length s.old → k ≤ get_or s.old j 0 }
-    requires i_in_bounds { i ≤ length s.old }
+    requires { (j : ℕ) → i ≤ j → j < length s.old → k ≤ get_or s.old j 0 }
     ensures { s.new ≡ on_from (λ (x : ℕ). x - k) s.old i }
 {
-    for x in &mut s[i..] {
-        *x -= k;
+    for j in i..s.len() {
+        s[j] -= k;
     }
 }
 

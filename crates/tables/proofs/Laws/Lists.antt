@@ -10,7 +10,7 @@ use borrow.Author.Tests.{eqb-true, eq-eqb}
 use borrow.Rule.Slice.PartMut.{mid_of, put_mid}
 use lib.Dec.{eqb}
 use lib.ListN.{length, set, get_or, take, drop, replicate, length-append, length-drop, length-replicate, drop_of_length-le, get_or-append}
-use lib.Seq.{paste, take_all, take_at, drop_at, length-take-le, take-length, drop-length, drop-cons, drop-drop, drop-append-le, set-append_left, drop-set-add}
+use lib.Seq.{take_at, drop_at, length-take-le, take-length, drop-length, drop-cons, drop-drop, drop-append-le, set-append_left, drop-set-add}
 use Rattle.tables.specs.Cells.{Each}
 use Rattle.tables.specs.Lists.{insert_at, remove_at, insert_run, remove_run, sum, same_list}
 use Rattle.tables.specs.ModelTable.{flat, start_of, cut, shift_in, shift_out, on_from}
@@ -325,22 +325,6 @@ shift_in-turn s (suc j) k h b =
     rw z (shift_in-turn-suc s j k (omega arith))
 
 -- all moved, and the first k cells filled
--- the cells below n copied k further up, or those from k on to the front
-pub copied_up : (s : List ℕ) (n k : ℕ) → n + k ≡ length s → remove_run (paste s k s n) 0 k ≡ take n s
-unfolding remove_run
-copied_up s n k h =
-    rw (drop_of_length-le s {i = k + n} (omega arith), append-nil (take k s ++ take n s)) (drop_at (take k s) (take n s) k (length-take-le k s (omega arith)))
-
-pub copied_down : (s : List ℕ) (n k : ℕ) → n + k ≡ length s → shift_out (paste s 0 (drop k s) n) n k ≡ shift_out s 0 k
-unfolding shift_out remove_run
-copied_down s n k h =
-    let z : length (take n (drop k s)) ≡ n = length-take-le n (drop k s) (omega (arith, length-drop k s)) in
-    let l : n + k ≡ length (take n (drop k s) ++ drop (0 + n) s) = rw (length-append, z, length-drop) (omega arith) in
-    ap (λ (r : List ℕ). r ++ replicate k 0)
-    (remove_run-last (take n (drop k s) ++ drop (0 + n) s) n k l
-    ∙ take_at (take n (drop k s)) (drop (0 + n) s) n z
-    ∙ take_all n (drop k s) (omega (arith, length-drop k s)))
-
 pub shift_in-first : (s s₀ : List ℕ) (k v : ℕ) → k ≤ length s → remove_run s 0 k ≡ take (length s₀ - k) s₀
     → replicate (length (take k s)) v ++ drop k s ≡ shift_in s₀ 0 k v
 unfolding shift_in insert_run remove_run
@@ -361,19 +345,6 @@ module _ (f : ℕ → ℕ) where
   on_from-past [] j h = refl
   on_from-past (x ∷ s) zero h = absurd (not-suc-le-zero h)
   on_from-past (x ∷ s) (suc j) h = ap (λ (r : List ℕ). x ∷ r) (on_from-past s j (le_of_suc-le-suc h))
-
-  on_from-split : (s : List ℕ) (i : ℕ) → take i s ++ on_from f (drop i s) 0 ≡ on_from f s i
-  unfolding on_from
-  on_from-split [] zero = refl
-  on_from-split [] (suc i) = refl
-  on_from-split (x ∷ s) zero = refl
-  on_from-split (x ∷ s) (suc i) = ap (λ (r : List ℕ). x ∷ r) (on_from-split s i)
-
-  -- the part from a place on changed by itself
-  pub on_from-part : (s : List ℕ) (i k : ℕ) (ys : List ℕ) → i + k ≡ length s → ys ≡ on_from f (take k (drop i s)) 0 → put_mid i k s ys ≡ on_from f s i
-  on_from-part s i k ys h e =
-      rw (e, take_all k (drop i s) (omega (arith, length-drop i s)), drop-drop k i s, drop_of_length-le s {i = i + k} (omega arith), append-nil (on_from f (drop i s) 0))
-      (on_from-split s i)
 
   pub length-on_from : (s : List ℕ) (j : ℕ) → length (on_from f s j) ≡ length s
   unfolding on_from

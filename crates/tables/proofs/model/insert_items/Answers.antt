@@ -1,13 +1,10 @@
 use mathlib.Core.Path.{◌≡◌, sym, ◌∙◌}
-use mathlib.Core.List.{map}
 use Prim.Native.Nat.{suc, ◌+◌, ◌-◌}
 use native.Mathlib.Omega.{arith}
 use borrow.Rule.Slice.PartMut.{mid_of}
-use lib.ListN.{length, length-map}
 use Rattle.tables.specs.ModelTable.{item_is, items_at, starts_at, start_of, item_cell, count_of, model_of, shift_in}
 use Rattle.tables.specs.Records.{content_items}
 use Rattle.tables.proofs.Laws.ModelTable.{item-weaker, insert-starts, starts-few, store-insert}
-use Rattle.tables.proofs.Laws.Starts.{length-sums}
 use Rattle.tables.proofs.model.insert_items.Goals as goal
 
 pub item_cell-v-requires : goal.item_cell-v-requires
@@ -22,7 +19,7 @@ raise_from-requires c = let shifted_0 : c.shift_in.new.s
     c.args.k
     (item_cell (item_is c.args.a)) = rw (c.start_of.ensures.is, c.item_cell-v.ensures) at c.shift_in.ensures in let starts-lent_0 : starts_at + c.count-n.result + 1 - starts_at ≡ suc (count_of (model_of c.args.model.now)) = omega (arith, c.count-n.ensures) in let items-lent_0 : items_at + c.item_total-total.result + c.args.k - items_at ≡ content_items (model_of c.args.model.now) + c.args.k = omega (arith, c.item_total-total.ensures) in
     let xs = c.args.model.now in
-    let e = insert-starts xs c.requires.good_model c.args.e.0 c.args.i c.args.k (item_is c.args.a) c.requires.e_bound c.requires.i_in_bounds c.requires.k_bound _ _ _ items-lent_0 starts-lent_0 shifted_0 in record { by_index = λ n. rw e (starts-few xs c.requires.good_model n); k_le_item_limit = omega arith; i_in_bounds = rw (e, length-sums 0 (map length (model_of xs).lists), length-map (model_of xs).lists length) (omega (arith, c.requires.e_bound, c.requires.good_model.sized.lists)) }
+    let e = insert-starts xs c.requires.good_model c.args.e.0 c.args.i c.args.k (item_is c.args.a) c.requires.e_bound c.requires.i_in_bounds c.requires.k_bound _ _ _ items-lent_0 starts-lent_0 shifted_0 in record { by_index = λ n. rw e (starts-few xs c.requires.good_model n); k_le_item_limit = omega arith }
 
 pub returns : goal.returns
 returns c = let shifted_0 : c.shift_in.new.s

@@ -4,6 +4,5 @@ use lib.ListN.{length, get_or}
 use Rattle.tables.specs.ModelTable.{on_from}
 use Rattle.tables.proofs.model.lower_from.Given as goal
 
--- the entries before the index are lowered, the others are as they were
-abbrev pub invariant-loop-x : goal.invariant-loop-x
-invariant-loop-x l = (on_from (λ (x : ℕ). x - l.k) l.x-items l.x-index ≡ on_from (λ (x : ℕ). x - l.k) l.initial.x-items 0) × ((n : ℕ) → l.x-index ≤ n → n < length l.initial.x-items → l.k ≤ get_or l.x-items n 0)
+abbrev pub invariant-loop-j : goal.invariant-loop-j
+invariant-loop-j l = (on_from (λ (x : ℕ). x - l.k) l.s l.j ≡ on_from (λ (x : ℕ). x - l.k) l.initial.s l.i) × (length l.s ≡ length l.initial.s) × ((n : ℕ) → l.j ≤ n → n < length l.initial.s → l.k ≤ get_or l.s n 0)

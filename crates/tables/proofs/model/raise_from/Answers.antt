@@ -1,33 +1,19 @@
-use mathlib.Core.Path.{refl, sym, ◌∙◌}
-use Prim.Native.Nat.{ℕ, ◌+◌, ◌-◌}
+use mathlib.Core.Path.{sym, ◌∙◌}
+use Prim.Native.Nat.{ℕ, ◌+◌}
 use native.Mathlib.Omega.{arith}
-use lib.ListN.{length, get_or, drop, length-drop}
-use lib.Seq.{get_or-set_other, take_all}
-use Rattle.std.proofs.lemmas.List.{get_or-drop}
-use Rattle.tables.proofs.Laws.Lists.{on_from-turn, on_from-past, on_from-part}
+use lib.ListN.{get_or, length-set}
+use lib.Seq.{get_or-set_other}
+use Rattle.tables.proofs.Laws.Lists.{on_from-turn, on_from-past}
 use Rattle.tables.proofs.model.raise_from.Goals as goal
 
-pub loop-x-init : goal.loop-x-init
-loop-x-init c =
-    let s = c.args.s.now in
-    let i = c.args.i in
-    (refl, λ n h. rw (take_all (length s - i) (drop i s) (omega (arith, length-drop i s)), get_or-drop i s n 0) (c.requires.by_index (i + n)))
-
-pub overflow_add-x : goal.overflow_add-x
-overflow_add-x c =
-    let h = c.loop-x.invariant.1 c.loop-x.x-index (omega arith) in
-    omega (arith, c.requires.k_le_item_limit)
-
-pub loop-x-preserved : goal.loop-x-preserved
-loop-x-preserved c =
+pub loop-j-preserved : goal.loop-j-preserved
+loop-j-preserved c =
     let k = c.args.k in (
-      on_from-turn (λ (x : ℕ). x + k) c.loop-x.x-items c.loop-x.x-index (omega (arith, c.loop-x.auto.x-items)) ∙ c.loop-x.invariant.0,
-      λ n h. rw (get_or-set_other c.loop-x.x-items c.loop-x.x-index n (get_or c.loop-x.x-items c.loop-x.x-index 0 + k) 0 (omega arith)) (c.loop-x.invariant.1 n (omega arith)),
+      on_from-turn (λ (x : ℕ). x + k) c.loop-j.s c.loop-j.j (omega arith) ∙ c.loop-j.invariant.0,
+      simp length-set c.loop-j.invariant.1,
+      λ n h. rw (get_or-set_other c.loop-j.s c.loop-j.j n (get_or c.loop-j.s c.loop-j.j 0 + k) 0 (omega arith)) (c.loop-j.invariant.2 n (omega arith)),
     )
 
 pub returns : goal.returns
 returns c =
-    let s = c.args.s.now in
-    let i = c.args.i in
-    on_from-part (λ (x : ℕ). x + c.args.k) s i (length s - i) c.loop-x.x-items (omega arith)
-    (sym (on_from-past (λ (x : ℕ). x + c.args.k) c.loop-x.x-items c.loop-x.x-index (omega (arith, c.loop-x.auto.x-items))) ∙ c.loop-x.invariant.0)
+    sym (on_from-past (λ (x : ℕ). x + c.args.k) c.loop-j.s c.loop-j.j (omega arith)) ∙ c.loop-j.invariant.0
