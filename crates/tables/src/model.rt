@@ -72,7 +72,8 @@ fn item_cell(a: Item) -> u64
 
 // Changes of a part in place.
 
-// The first k this value, the others moved up by k; the last k fall out.
+// The first k this value, the others moved up by k; the last k fall out. A loop, here and in `move_down`: by
+// `copy_within` merges that import into long lists took a third to a half longer.
 fn move_up(s: &mut [u64], k: usize, v: u64)
     requires { k ≤ length s.old }
     ensures { s.new ≡ shift_in s.old 0 k v }
