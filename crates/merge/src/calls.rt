@@ -116,6 +116,16 @@ pub fn range(
     range_answer(e, n, r)
 }
 
+// One table's cells in the place of another's. A loop: by `copy_from_slice` the new arrays of a merge are filled with zeros first.
+pub fn copy(from: &[u64], to: &mut [u64])
+    requires { length from.now ≡ length to.old }
+    ensures { to.new ≡ from.now }
+{
+    for i in 0..to.len() {
+        to[i] = from[i];
+    }
+}
+
 // The counts of an accepted merge; the tables as they stood where it is refused.
 fn conclude(
     old_model: &[u64],
@@ -159,8 +169,8 @@ fn merge_waiting(
 {
     let mut old_model = [0u64; MODEL_SIZE];
     let mut old_log = [0u64; LOG_SIZE];
-    old_model.copy_from_slice(model);
-    old_log.copy_from_slice(log);
+    copy(model, &mut old_model);
+    copy(log, &mut old_log);
     let mark = log_length(log);
     let r = merge_tree(deck, schema, elements, model, log, f, b);
     conclude(&old_model, &old_log, model, log, mark, r)

@@ -131,6 +131,7 @@ fn definition(tables: &Tables, e: Element) -> Option<Place>
 }
 
 // The item name, or the definition.
+#[inline(always)]
 pub fn key_of(tables: &Tables, kind: KeyKind, e: Element) -> Option<Place>
     requires { e.0 < element_count tables.now }
     ensures { Keys tables.now.deck.now result (key_by (is_name kind) (fixed_of tables.now) (model_in tables.now) e.0) }

@@ -5,11 +5,13 @@ use mathlib.Core.Bool.{true, false, false≢true}
 use mathlib.Core.List.{List}
 use mathlib.Core.Option.{none, some}
 use mathlib.Core.Path.{◌≡◌, refl, sym, ap, ◌∙◌}
-use Prim.Native.Nat.{ℕ, zero, suc, ◌-◌, ◌≤◌, ◌<◌}
+use Prim.Native.Nat.{ℕ, zero, suc, ◌+◌, ◌-◌, ◌≤◌, ◌<◌}
+use native.Mathlib.Numerals.{add-one}
 use native.Mathlib.Omega.{arith}
 use borrow.Author.Tests.{ltb-true, lt-ltb, le-ltb, eq-eqb, ne_eqb}
 use lib.Dec.{eqb, ltb}
-use lib.ListN.{length, get_or}
+use lib.ListN.{length, get_or, take, set}
+use lib.Seq.{take_all, take-suc, take-suc-set}
 use Rattle.tables.specs.Limits.{version_limit}
 use Rattle.tables.specs.Records.{Mode, sequence, choice, bag, mixed, characters, Log, type_row}
 use Rattle.tables.specs.ElementsTable.{elements_of}
@@ -101,6 +103,15 @@ module _ (deck schema elements model log : List ℕ) (e n v : ℕ) where
             let m = (type_row (schema_of schema) (get_or (elements_of elements).types e 0)).mode in
             let k : is_characters m ≡ false = characters-by m ∙ ne_eqb (mode_number m) 4 (λ z. h (sym is_number ∙ z)) in
             rw (range_call, p, range, lt-ltb e (length (elements_of elements).names) there, lt-ltb v version_limit low, k, g)
+
+-- ---- a copy
+
+module _ (from to : List ℕ) (i : ℕ) (size : length to ≡ length from) (done : take i to ≡ take i from) where
+  pub copy_more : i < length from → take (i + 1) (set to i (get_or from i 0)) ≡ take (i + 1) from
+  copy_more h = rw (add-one i, take-suc-set to i (get_or from i 0) (omega arith), take-suc from i 0 h, done)
+
+  pub copy_done : length from ≤ i → to ≡ from
+  copy_done h = sym (take_all i to (omega arith)) ∙ done ∙ take_all i from h
 
 -- ---- merge
 
