@@ -1,9 +1,11 @@
 -- The answers of the calls as numbers, for callers in C and Rust: a code, and four numbers in a lent answer, 0 where there is nothing to say.
 -- Assumes nothing.
-use Rattle.std.specs.Prelude.{true, false, List, [], ◌∷◌, ℕ, eqb, length}
+use Rattle.std.specs.Prelude.{Result, Ok, Err, true, false, List, [], ◌∷◌, ℕ, eqb, length}
 use Rattle.std.proofs.Math.Option.{Option, none, some}
 use Rattle.tables.specs.LogTable.{log_of}
+use Rattle.load.specs.Lines.{refusal_number}
 use Rattle.load.specs.LoadCall.{Answer, Loaded, Refused}
+use Rattle.load.specs.declared.refusals.LoadError.{LoadError}
 use Rattle.state_test.specs.StateTest.{lent_tables_pass}
 use Rattle.merge_rules.specs.Calls.{MergeAnswer, merged, merge_refused, RangeAnswer, range_is, range_refused, RollbackAnswer, taken_off, rollback_refused}
 use Rattle.merge_rules.specs.Refusals.{Refusal, refusal_fields}
@@ -11,6 +13,7 @@ use Rattle.merge_rules.specs.TableCalls.{CallAnswer, bad_tables, answered}
 use Rattle.merge_log.specs.Answers.{refusal_is}
 use Rattle.merge.specs.declared.calls.CallError.{CallError}
 use Rattle.merge.specs.declared.calls.CallError.TheVariants.{BadTables, Refused as CallRefused}
+use Rattle.answer_numbers.specs.declared.numbers.LoadRefused.{LoadRefused}
 use Rattle.answer_numbers.specs.declared.numbers.Numbers as program
 
 abbrev pub answer_size : ℕ
@@ -67,6 +70,14 @@ error_numbers (CallRefused r) = refusal_numbers (refusal_is r)
 unfoldable pub load_numbers : Answer → Numbered
 load_numbers Loaded = accept 0 0 0 0
 load_numbers (Refused number line) = refuse number line 0
+
+-- what a load answers, its refusal by number
+unfoldable pub refused_answer : Result (Unit {0}) LoadRefused → Answer
+refused_answer (Ok u) = Loaded
+refused_answer (Err r) = Refused r.number r.line
+
+abbrev pub load_refused : LoadError → LoadRefused
+load_refused e = record { number = refusal_number e.refusal; line = e.line }
 
 -- imports, restrictions, extensions
 unfoldable pub merge_numbers : CallAnswer MergeAnswer → Numbered

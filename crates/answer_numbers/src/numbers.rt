@@ -3,7 +3,7 @@ ghost use Rattle.std.specs.Prelude.{◌≡◌};
 ghost use Rattle.load.specs.LoadCall.{load_answer};
 ghost use Rattle.merge_log.specs.Answers.{refusal_is};
 ghost use Rattle.merge.specs.Calls.{range_answer_is, merge_answer_is, rollback_answer_is};
-ghost use Rattle.answer_numbers.specs.Numbers.{numbered, numbers_is, by_answer, refused_by0, accept, refuse, refusal_numbers, error_numbers, load_numbers, merge_numbers, range_numbers, rollback_numbers, mark_numbers};
+ghost use Rattle.answer_numbers.specs.Numbers.{numbered, numbers_is, by_answer, refused_by0, accept, refuse, refusal_numbers, error_numbers, load_numbers, refused_answer, merge_numbers, range_numbers, rollback_numbers, mark_numbers};
 
 use insert_range::range::Bounds;
 use load::refusals::LoadError;
@@ -84,13 +84,45 @@ fn error_numbers(e: CallError) -> Numbers
     }
 }
 
-#[tactic(auto, unfolding(crate::specs::Numbers::load_numbers, load::specs::LoadCall::load_answer))]
-pub fn load_numbers(a: Result<(), LoadError>) -> Numbers
-    ensures { numbers_is result ≡ load_numbers (load_answer a) }
+// Why a load is not done, as C is handed it: a refusal of any number, at any line.
+#[derive(Clone, Copy, PartialEq, Eq)]
+pub struct LoadRefused {
+    pub number: u64,
+    pub line: u64,
+}
+
+impl From<LoadError> for LoadRefused {
+    ghost use Rattle.std.specs.Prelude.{◌≡◌};
+    ghost use Rattle.answer_numbers.specs.Numbers.{load_refused};
+
+    ghost from_gives = { λ e r. r ≡ load_refused e };
+
+    fn from(e: LoadError) -> LoadRefused {
+        LoadRefused {
+            number: e.refusal.number(),
+            line: e.line,
+        }
+    }
+}
+
+#[tactic(auto, unfolding(crate::specs::Numbers::load_numbers, crate::specs::Numbers::refused_answer))]
+pub fn load_numbers(a: Result<(), LoadRefused>) -> Numbers
+    ensures { numbers_is result ≡ load_numbers (refused_answer a) }
 {
     match a {
         Ok(()) => accepted(0, 0, 0, 0),
-        Err(e) => refused(e.refusal.number(), e.line, 0),
+        Err(r) => refused(r.number, r.line, 0),
+    }
+}
+
+// The numbers of what `load` answers.
+#[tactic(auto, unfolding(crate::specs::Numbers::refused_answer, load::specs::LoadCall::load_answer))]
+pub fn loaded_numbers(a: Result<(), LoadError>) -> Numbers
+    ensures { numbers_is result ≡ load_numbers (load_answer a) }
+{
+    match a {
+        Ok(()) => load_numbers(Ok(())),
+        Err(e) => load_numbers(Err(e.into())),
     }
 }
 

@@ -125,16 +125,16 @@ fn string_text(deck: &[u8], start: usize, end: usize) -> Option<StoredText>
     }))
 }
 
-// The text of a value field, by the letter of its kind.
-pub fn text_field(deck: &[u8], letter: u8, start: usize, end: usize) -> Option<StoredText>
+// The text of a value field, by the letter of its kind: e, s, u or f. A letter of 64 bits, as the rules have it.
+pub fn text_field(deck: &[u8], letter: u64, start: usize, end: usize) -> Option<StoredText>
     requires { (start ≤ end) × (end ≤ length deck.now) × (length deck.now ≤ deck_limit) }
     ensures { TextReads result (by_letter texts letter (part_at deck.now start end)) }
 {
     match letter {
-        b'e' => Some(StoredText::Number(number(&deck[start..end], 10, ENUM_LIMIT)?)),
-        b's' => string_text(deck, start, end),
-        b'u' => Some(StoredText::Whole(number(&deck[start..end], 10, WORD_LIMIT)?)),
-        b'f' => Some(StoredText::Float(number(&deck[start..end], 16, WORD_LIMIT)?)),
+        101 => Some(StoredText::Number(number(&deck[start..end], 10, ENUM_LIMIT)?)),
+        115 => string_text(deck, start, end),
+        117 => Some(StoredText::Whole(number(&deck[start..end], 10, WORD_LIMIT)?)),
+        102 => Some(StoredText::Float(number(&deck[start..end], 16, WORD_LIMIT)?)),
         _ => None,
     }
 }

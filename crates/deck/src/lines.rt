@@ -122,7 +122,7 @@ fn text_at(deck: &[u8], f: Fields) -> Option<StoredText>
 {
     let kind = letter_at(deck, f, 2)?;
     let p = places(f, 3);
-    text_field(deck, kind, p.start, p.end)
+    text_field(deck, kind as u64, p.start, p.end)
 }
 
 // A T line: mode as its number.

@@ -100,6 +100,18 @@ fn compare_name(schema: &[u64], t: TypeNumber, new: usize, n: Name) -> Option<Ag
     Some(Against { mode, order })
 }
 
+// The same in the loop over a list, which asks once for a run of items of one name. Cold, so that the straight line of a turn is the name that stays.
+#[cold]
+#[inline(never)]
+fn compare_next(schema: &[u64], t: TypeNumber, new: usize, n: Name) -> Option<Against>
+    requires good_schema { GoodSchema schema.now }
+    requires t_in_bounds { t.0 < length (schema_of schema.now).types }
+    requires in_bounds { new < length (schema_of schema.now).sub_elements }
+    ensures { Compares schema.now t.0 new n.0 result }
+{
+    compare_name(schema, t, new, n)
+}
+
 // The name of an item; of a text, the last one.
 fn name_or(elements: &[u64], a: Item, last: Name) -> Name
     requires good_elements { GoodElements elements.now }
@@ -182,7 +194,7 @@ fn read_content(
         let next = name_or(elements, a, name);
         if next != name {
             name = next;
-            against = compare_name(schema, t, new, name);
+            against = compare_next(schema, t, new, name);
         }
         match read_item(a, against, mult, i, &mut bounds) {
             Move::Stop => return Ok(bounds),

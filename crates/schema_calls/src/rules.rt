@@ -79,7 +79,8 @@ pub fn group_rule(schema: &[u64], above: usize, t: TypeNumber, p: Path, repeated
     path_valid(schema, t, p, above) & !repeated
 }
 
-// A row above this place is of the type and has the row's name or path.
+// A row above this place is of the type and has the row's name or path. Apart, so that its two walks are not written into the loop of load.
+#[inline(never)]
 pub fn rows_meet(schema: &[u64], above: usize, c: RowCells) -> bool
     requires good_schema { GoodSchema schema.now }
     requires above_in_bounds { above ≤ length (schema_of schema.now).sub_elements }

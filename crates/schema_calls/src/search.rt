@@ -49,6 +49,7 @@ impl Sought {
     }
 
     // The row or group at place i is what is sought.
+    #[inline(always)]
     fn matches(self, schema: &[u64], i: usize) -> bool
         requires good_schema { GoodSchema schema.now }
         requires i_bound { i < places_in (schema_of schema.now) (index_for self) }
@@ -102,6 +103,9 @@ fn group_matches(schema: &[u64], i: usize, t: TypeNumber, p: Path) -> bool
 }
 
 // The first in deck order of what is sought, among the places above this one: the last that the bucket's links lead to.
+// Inlined, as `matches` and `is_found` are: each caller writes which `Sought` it seeks, so its walk has one test. Where each link chooses the test, load of
+// a schema with long walks takes a third longer.
+#[inline(always)]
 pub fn find(schema: &[u64], sought: Sought, above: usize) -> Option<usize>
     requires good_schema { GoodSchema schema.now }
     requires above_bound { above ≤ places_in (schema_of schema.now) (index_for sought) }
@@ -120,6 +124,7 @@ pub fn find(schema: &[u64], sought: Sought, above: usize) -> Option<usize>
     found
 }
 
+#[inline(always)]
 pub fn is_found(schema: &[u64], sought: Sought, above: usize) -> bool
     requires good_schema { GoodSchema schema.now }
     requires above_bound { above ≤ places_in (schema_of schema.now) (index_for sought) }

@@ -96,7 +96,8 @@ fn text_cell(elements: &[u64], t: usize, field: usize) -> u64
 pub fn text_at(elements: &[u64], t: usize) -> StoredText
     requires good_elements { GoodElements elements.now }
     requires t_in_bounds { t < length (elements_of elements.now).texts }
-    ensures { stored_is result ≡ get_or (elements_of elements.now).texts t (enum_number 0) }
+    ensures is { stored_is result ≡ get_or (elements_of elements.now).texts t (enum_number 0) }
+    ensures fits { StoredFits result }
 {
     StoredText::from_cells(text_cell(elements, t, 0), text_cell(elements, t, 1))
 }

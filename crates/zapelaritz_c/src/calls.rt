@@ -5,7 +5,7 @@ ghost use Rattle.answer_numbers.specs.Numbers.{numbered};
 ghost use Rattle.zapelaritz_c.specs.NumberedCalls.{numbered_load, numbered_merge, numbered_range, numbered_rollback, numbered_mark};
 
 use answer_numbers::numbers::{
-    ANSWER_SIZE, WRONG_SIZE, load_numbers, mark_numbers, merge_numbers, range_numbers,
+    ANSWER_SIZE, WRONG_SIZE, loaded_numbers, mark_numbers, merge_numbers, range_numbers,
     rollback_numbers, write_numbers,
 };
 use load::load::load;
@@ -51,7 +51,7 @@ pub extern "C" fn zapelaritz_load(
         clear_lent(schema, elements, model, log, answer);
         return WRONG_SIZE;
     }
-    let n = load_numbers(load(deck, schema, elements, model, log));
+    let n = loaded_numbers(load(deck, schema, elements, model, log));
     write_numbers(answer, n)
 }
 

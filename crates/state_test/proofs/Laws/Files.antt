@@ -24,12 +24,15 @@ unfolding root_set_stored
 no-root-set m h = rw (get_or-eq_default m.sets 0 {n = 0} h)
 
 -- and one whose root's set is stored has elements
-pub root_set_there : (m : Model) → length m.sets ≡ length m.parents → root_set_stored m ≡ true → 0 < length m.parents
-root_set_there m same h = by_count (length m.sets) refl
+pub root-set-there : (m : Model) → root_set_stored m ≡ true → 0 < length m.sets
+root-set-there m h = by_count (length m.sets) refl
   where
-    by_count : (n : ℕ) → length m.sets ≡ n → 0 < length m.parents
-    by_count (suc n) e = omega (arith, same, e)
+    by_count : (n : ℕ) → length m.sets ≡ n → 0 < length m.sets
+    by_count (suc n) e = omega (arith, e)
     by_count zero e = absurd (false≢true (no-root-set m (omega arith) ∙ h))
+
+pub root_set_there : (m : Model) → length m.sets ≡ length m.parents → root_set_stored m ≡ true → 0 < length m.parents
+root_set_there m same h = omega (arith, same, root-set-there m h)
 
 -- ---- tests by a set
 

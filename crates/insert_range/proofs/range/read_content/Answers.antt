@@ -37,7 +37,7 @@ now-named : (c : After-read_item) → Named c.args.schema.now c.args.elements.no
     (item_is c.item_at-a.result) c.if-ne.name c.if-ne.against
 now-named c =
     elim c.if-ne.branch [
-      | then-ne w ↦ named w.name-is w.against-is w.compare_name-against-then-ne.ensures c.name_or-next.ensures
+      | then-ne w ↦ named w.name-is w.against-is w.compare_next-against.ensures c.name_or-next.ensures
       | else-ne w ↦
           let same : c.name_or-next.result.0 ≡ c.loop-i.name.0 = search rules in
           named w.name-is w.against-is c.loop-i.invariant.0 (sym same ∙ c.name_or-next.ensures)

@@ -11,5 +11,7 @@ pub returns : goal.returns
 returns c =
     let texts = (elements_of c.args.elements.now).texts in
     let t = c.args.t in
-    c.from_cells.ensures.is ∙ (λ i. text_from (c.text_cell.ensures i) (c.text_cell-2.ensures i))
-    ∙ text-back _ (each-get_d TextFits texts t (enum_number 0) c.requires.good_elements.sized.strings (search rules))
+    record {
+      is = c.from_cells.ensures.is ∙ (λ i. text_from (c.text_cell.ensures i) (c.text_cell-2.ensures i)) ∙ text-back _ (each-get_d TextFits texts t (enum_number 0) c.requires.good_elements.sized.strings (search rules));
+      fits = c.from_cells.ensures.fits;
+    }

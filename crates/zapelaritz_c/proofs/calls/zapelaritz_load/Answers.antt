@@ -17,6 +17,6 @@ returns c =
     let answer = c.args.answer.now in
     let h = c.if-answer-ne-ANSWER_SIZE.false in
     let p =
-    c.write_numbers.ensures ∙ sym (right-size answer h _ _) ∙ c.load_numbers-n.ensures ∙ ap (λ (r : LoadResult). load_numbers r.answer) c.load.ensures
+    c.write_numbers.ensures ∙ sym (right-size answer h _ _) ∙ c.loaded_numbers-n.ensures ∙ ap (λ (r : LoadResult). load_numbers r.answer) c.load.ensures
     in
     (λ i. record { answer = p i; tables = (c.load.ensures i).tables }) ∙ right-size answer h _ _
